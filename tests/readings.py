@@ -22,6 +22,7 @@ THIRD = (b'Every turn:\n\tsay "a";\n\t', b"")
 FILES = {
     "tokens": ("tokens", ALONE, b""),
     "sentences": ("sentences", ALONE, b""),
+    "values": ("sentences", ALONE, b""),
     "texts": ("pieces", ALONE, b""),
     "bodies": ("phrases", ALONE, b""),
     "rules": ("rules", ALONE, b""),

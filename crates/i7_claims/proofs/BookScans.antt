@@ -30,7 +30,7 @@ mention_has names name other =
       | inr isnt ↦ rw isnt refl
     ]
 
-has_more : (a b more : List (List ℕ)) (other : List ℕ) → has_name a other ≡ has_name b other → has_name (a ++ more) other ≡ has_name (b ++ more) other
+pub has_more : (a b more : List (List ℕ)) (other : List ℕ) → has_name a other ≡ has_name b other → has_name (a ++ more) other ≡ has_name (b ++ more) other
 has_more a b more other h = list_any-append (bytes_eq other) a more ∙ ap (λ x. x || has_name more other) h ∙ sym (list_any-append (bytes_eq other) b more)
 
 fact_has : (f : Fact) (books : List (List ℕ)) (other : List ℕ) → has_name (with_book books f) other ≡ has_name (books ++ books_in f) other
@@ -44,7 +44,7 @@ fold_books (c ∷ cs) books other =
     ∙ has_more (with_book books c.fact) (books ++ books_in c.fact) (books_of cs) other (fact_has c.fact books other)
     ∙ ap (λ (s : List (List ℕ)). has_name s other) (append_assoc books (books_in c.fact) (books_of cs))
 
-test_decides : (b : Bool) → Decides b (b ≡ true)
+pub test_decides : (b : Bool) → Decides b (b ≡ true)
 test_decides b = (λ h. h, λ h. h)
 
 book_decides : (before : List Claim) (f : Fact) → Decides (is_book_twice (fold with_book_of built_in_books before) f) (IsBookTwice before f)

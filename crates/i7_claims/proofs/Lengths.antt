@@ -10,11 +10,12 @@ use Rattle.std.proofs.lemmas.Bool.{ltb-true, ltb-false, cases_Bool}
 use Rattle.world_meaning.specs.Spelling.{is_article, is_spelled}
 use Rattle.i7_claims.specs.NameScans.{IsShort, Standings, longer, longer_claim, longer_fact, no_standings, with_claim, with_fact, with_naming}
 use Rattle.i7_claims.specs.Phrases.{behind_word, first_word, is_behind_and, is_denied, is_letter, is_name, is_phrase, kind_said, longest_phrase, name_in, without_article, without_blank}
-use Rattle.i7_claims.specs.Plurals.{front_of, kind_named}
+use Rattle.i7_sentences.specs.Plurals.{front_of}
+use Rattle.i7_claims.specs.Plurals.{kind_named}
 use Rattle.i7_claims.specs.Wording.{may_end, some_name}
 use Rattle.i7_claims.specs.declared.claim.Claim.{Claim}
 use Rattle.i7_claims.specs.declared.claim.Fact.{Fact}
-use Rattle.i7_claims.specs.declared.claim.Fact.TheVariants.{Stands, Rulebook, Lies, CanBe, HasNumber, Demands, RoomUnlessDoor, Between, Placed, Has, Usually, Starts, Unread}
+use Rattle.i7_claims.specs.declared.claim.Fact.TheVariants.{Stands, Rulebook, Lies, CanBe, HasNumber, HasValue, Values, Demands, RoomUnlessDoor, Between, Placed, Has, Usually, Starts, Unread}
 use Rattle.i7_claims.specs.declared.claim.Naming.{Naming}
 
 same_length : (a b : List ℕ) → bytes_eq a b ≡ true → length a ≡ length b
@@ -41,6 +42,8 @@ fact_short most known (Rulebook x) h = h
 fact_short most known (Lies x) h = h
 fact_short most known (CanBe x) h = h
 fact_short most known (HasNumber x) h = h
+fact_short most known (HasValue x) h = h
+fact_short most known (Values x) h = h
 fact_short most known (Demands x) h = h
 fact_short most known (RoomUnlessDoor x) h = h
 fact_short most known (Between x) h = h
@@ -120,19 +123,19 @@ name_length phrase =
       | inr isnt ↦ rw isnt (omega (arith, a))
     ]
 
-no_long_name : (most : ℕ) (known : Standings) (phrase : List ℕ) → IsShort most known → most + 14 < length phrase → is_name known phrase ≡ false
-no_long_name most known phrase h long =
+no_long_name : (most : ℕ) (known : Standings) (is_joined : Bool) (phrase : List ℕ) → IsShort most known → most + 14 < length phrase → is_name known is_joined phrase ≡ false
+no_long_name most known is_joined phrase h long =
     let none : known (name_in phrase) ≡ None = h (name_in phrase) (omega (arith, long, name_length phrase)) in
     rw none refl
 
 no_long_phrase : (most : ℕ) (known : Standings) (is_joined : Bool) (phrase : List ℕ) → IsShort most known → longest_phrase most < length phrase → is_phrase known is_joined phrase ≡ false
 unfolding is_phrase
-no_long_phrase most known false phrase h long = no_long_name most known phrase h (omega (arith, long))
+no_long_phrase most known false phrase h long = no_long_name most known false phrase h (omega (arith, long))
 no_long_phrase most known true phrase h long =
     elim (cases_Bool (is_behind_and phrase)) [
       | inl is ↦
           let n = word_length phrase (codes "and") is in
-          let none = no_long_name most known (behind_word phrase) h (omega (arith, long, n)) in
+          let none = no_long_name most known true (behind_word phrase) h (omega (arith, long, n)) in
           rw (is, none) refl
       | inr isnt ↦ rw isnt refl
     ]

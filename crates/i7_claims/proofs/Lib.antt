@@ -1,9 +1,11 @@
 pub mod SortScans
 pub mod BookScans
+pub mod ListScans
 pub mod Lowest
 pub mod NameScans
 pub mod Kept
 pub mod Firsts
+pub mod RangedWords
 pub mod Ranged
 pub mod Columns
 pub mod Lengths

@@ -1,5 +1,5 @@
 -- What sentences claim of names, in small letters: one clause a form.
-use Rattle.std.specs.Prelude.{ℕ, ℤ, List, [], ◌∷◌, ◌++◌, flat_map, fold, map, true, Option, Some, None, codes, if◌then◌else◌}
+use Rattle.std.specs.Prelude.{ℕ, ◌+◌, ℤ, List, [], ◌∷◌, ◌++◌, flat_map, fold, map, true, Option, Some, None, bytes_eq, codes, if◌then◌else◌}
 use Rattle.world_meaning.specs.Spelling.{lowered}
 use Rattle.world_meaning.specs.declared.place.Rel.{Rel}
 use Rattle.world_meaning.specs.declared.place.Rel.TheVariants.{In, On, Carried, Worn, Part}
@@ -18,13 +18,13 @@ use Rattle.i7_claims.specs.Wording.{usual_said, what_said}
 use Rattle.i7_claims.specs.declared.wording.What.{What}
 use Rattle.i7_claims.specs.declared.claim.Claim.{Claim}
 use Rattle.i7_claims.specs.declared.claim.Fact.{Fact}
-use Rattle.i7_claims.specs.declared.claim.Fact.TheVariants.{Stands, Rulebook, Lies, CanBe, HasNumber, Demands, RoomUnlessDoor, Between, Placed, Has, Usually, Starts, Unread}
+use Rattle.i7_claims.specs.declared.claim.Fact.TheVariants.{Stands, Rulebook, Lies, CanBe, HasNumber, HasValue, Values, Demands, RoomUnlessDoor, Between, Placed, Has, Usually, Starts, Unread}
 use Rattle.i7_claims.specs.declared.claim.Grant.{Grant}
 use Rattle.i7_claims.specs.declared.claim.Quality.{Quality}
 use Rattle.i7_claims.specs.declared.claim.Standing.{Standing}
 use Rattle.i7_claims.specs.declared.claim.Standing.TheVariants as stands
 use Rattle.i7_claims.specs.declared.claim.Value.{Value}
-use Rattle.i7_claims.specs.declared.claim.Value.TheVariants.{Truth, Amount}
+use Rattle.i7_claims.specs.declared.claim.Value.TheVariants.{Truth, Amount, Choice, Never}
 
 abbrev pub claimed : Fact → ℕ → Claim
 claimed fact line = record { fact = fact; line = line }
@@ -69,7 +69,7 @@ abbrev pub has : ℕ → Name → List ℕ → Value → Claim
 has line name property value = claimed (Has (record { object = key_of name.text; property = property; value = value })) line
 
 abbrev pub has_quality : ℕ → Name → Quality → Claim
-has_quality line name quality = has line name quality.property (Truth quality.is_true)
+has_quality line name quality = has line name quality.property quality.value
 
 abbrev pub has_all : List Quality → ℕ → Name → List Claim
 has_all qualities line name = map (has_quality line name) qualities
@@ -122,7 +122,7 @@ abbrev pub usual : List ℕ → ℕ → List ℕ → Value → Claim
 usual kind line property value = claimed (Usually (record { kind = kind; property = property; value = value })) line
 
 abbrev pub usual_quality : List ℕ → ℕ → Quality → Claim
-usual_quality kind line quality = usual kind line quality.property (Truth quality.is_true)
+usual_quality kind line quality = usual kind line quality.property quality.value
 
 abbrev pub usual_claims : List ℕ → Option What → List ℕ → ℕ → List Claim
 usual_claims kind None words line = claimed (Unread words) line ∷ []
@@ -172,6 +172,47 @@ door_claims door first second line = placed_door door line ++ room_claims first 
 abbrev pub holding_claims : Name → Rel → List Name → ℕ → List Claim
 holding_claims holder relation things line = map (named stands.Object line) (holder ∷ things) ++ placings_said (Some (record { relation = relation; name = holder })) things line
 
+-- ---- kinds of value
+
+-- the values of a kind of value from this place on, each a name of its own
+abbrev pub values_from : List ℕ → ℕ → ℕ → List Name → List Claim
+values_from kind line place [] = []
+values_from kind line place (value ∷ values) = named (stands.Value (record { kind = kind; place = place })) line value ∷ values_from kind line (1 + place) values
+
+abbrev pub listed_values : Name → List Name → ℕ → List Claim
+listed_values kind values line = claimed (Values (record { kind = key_of kind.text; values = map (λ value. value.text) values })) line ∷ values_from (key_of kind.text) line 0 values
+
+-- what a value's name says of a kind of value: that of another kind is none of its values
+abbrev pub choice_by : Standing → List ℕ → Option Value
+choice_by (stands.Value value) kind = if bytes_eq value.kind kind then Some (Choice value.place) else Some Never
+choice_by _ kind = None
+
+abbrev pub choice_in : Option Standing → List ℕ → Option Value
+choice_in None kind = None
+choice_in (Some standing) kind = choice_by standing kind
+
+abbrev pub choice_said : Standings → Name → Name → Option Value
+choice_said known property value = choice_in (known (key_of value.text)) (key_of property.text)
+
+-- an object has a value; a name that is no value's says nothing
+abbrev pub has_choice : Name → Name → Name → ℕ → Option Value → Claim
+has_choice property object value line None = claimed (Unread (key_of value.text)) line
+has_choice property object value line (Some choice) = has line object (key_of property.text) choice
+
+abbrev pub choice_claim : Standings → Name → Name → Name → ℕ → Claim
+choice_claim known property object value line = has_choice property object value line (choice_said known property value)
+
+abbrev pub value_claims : Standings → Name → Name → Name → ℕ → List Claim
+value_claims known property object value line = named stands.Object line object ∷ choice_claim known property object value line ∷ []
+
+-- objects of a kind usually have a value
+abbrev pub usually_choice : List ℕ → Name → Name → ℕ → Option Value → Claim
+usually_choice kind property value line None = claimed (Unread (key_of value.text)) line
+usually_choice kind property value line (Some choice) = usual kind line (key_of property.text) choice
+
+abbrev pub usual_choice : Standings → Name → Name → Name → ℕ → Claim
+usual_choice known property kind value line = usually_choice (usual_kind known kind) property value line (choice_said known property value)
+
 -- what a sentence declares besides objects
 abbrev pub declares_said : Assertion → ℕ → List Claim
 declares_said (assertion.Rulebook name) line = claimed (Rulebook (lowered name.text)) line ∷ []
@@ -180,17 +221,26 @@ declares_said (assertion.KindOfKind kind parent) line = named stands.Kind line k
 declares_said (assertion.EitherOr kind first second) line = either_or kind first second line
 declares_said (assertion.NumberProperty kind property) line = named stands.Number line property ∷ claimed (HasNumber (grant_of kind property)) line ∷ []
 declares_said (assertion.Variable name) line = named stands.Variable line name ∷ []
+declares_said (assertion.ValueKind name) line = named stands.ValueKind line name ∷ []
+declares_said (assertion.Values kind values) line = listed_values kind values line
+declares_said (assertion.HasValue kind property) line = claimed (HasValue (grant_of kind property)) line ∷ []
 declares_said _ line = []
 
 abbrev pub declares_in : Sentence → List Claim
 declares_in sentence = declares_said sentence.said sentence.line
 
--- what a sentence claims of numbers, and else what it declares
+-- what a sentence claims of values, and else what it declares
+abbrev pub choices_said : Standings → Assertion → ℕ → List Claim
+choices_said known (assertion.ValueOf property object value) line = value_claims known property object value line
+choices_said known (assertion.UsuallyValue property kind value) line = usual_choice known property kind value line ∷ []
+choices_said known said line = declares_said said line
+
+-- what a sentence claims of numbers, and else what it claims of values and declares
 abbrev pub numbers_said : Standings → Assertion → ℕ → List Claim
 numbers_said known (assertion.NumberOf property object number) line = number_claims known property object number line
 numbers_said known (assertion.UsuallyNumber property kind number) line = usual_number known property kind number line ∷ []
 numbers_said known (assertion.VariableIs variable number) line = start_claim known variable number line ∷ []
-numbers_said known said line = declares_said said line
+numbers_said known said line = choices_said known said line
 
 -- what a sentence claims, where each name stands for this
 abbrev pub claims_said : Standings → Assertion → ℕ → List Claim

@@ -2,6 +2,7 @@ pub mod Beings
 pub mod Claims
 pub mod Firsts
 pub mod KindNames
+pub mod Listings
 pub mod NameScans
 pub mod Numbers
 pub mod Phrases

@@ -1,5 +1,5 @@
 -- The scans for names that stand for two things.
-use Rattle.std.specs.Prelude.{◌≡◌, ℕ, ◌<◌, max, Bool, false, not, List, length, Option, Some, None, fold, bytes_eq, option_copied}
+use Rattle.std.specs.Prelude.{◌≡◌, ℕ, ◌<◌, max, Bool, false, not, List, [], length, Option, Some, None, fold, bytes_eq, option_copied}
 use Rattle.std.specs.Borrow.{Bor}
 use Rattle.indexmap.specs.IndexMap.{IndexMap, get_by}
 use Rattle.object_words.specs.Mentions.{mention}
@@ -8,7 +8,7 @@ use Rattle.i7_claims.specs.Scans.{lowest}
 use Rattle.i7_claims.specs.Standings.{built_in_books, built_in_namings, has_name, suits}
 use Rattle.i7_claims.specs.declared.claim.Claim.{Claim}
 use Rattle.i7_claims.specs.declared.claim.Fact.{Fact}
-use Rattle.i7_claims.specs.declared.claim.Fact.TheVariants.{Stands, Rulebook}
+use Rattle.i7_claims.specs.declared.claim.Fact.TheVariants.{Stands, Rulebook, Values}
 use Rattle.i7_claims.specs.declared.claim.Naming.{Naming}
 use Rattle.i7_claims.specs.declared.claim.Standing.{Standing}
 
@@ -81,3 +81,20 @@ shows_book books c = is_book_twice books c.fact
 
 abbrev pub book_twice : List Claim → Option ℕ
 book_twice claims = lowest shows_book with_book_of built_in_books claims None
+
+abbrev pub with_list : List (List ℕ) → Fact → List (List ℕ)
+with_list kinds (Values listing) = mention kinds listing.kind
+with_list kinds _ = kinds
+
+abbrev pub with_list_of : List (List ℕ) → Claim → List (List ℕ)
+with_list_of kinds c = with_list kinds c.fact
+
+abbrev pub is_listed_twice : List (List ℕ) → Fact → Bool
+is_listed_twice kinds (Values listing) = has_name kinds listing.kind
+is_listed_twice kinds _ = false
+
+abbrev pub shows_list : List (List ℕ) → Claim → Bool
+shows_list kinds c = is_listed_twice kinds c.fact
+
+abbrev pub list_twice : List Claim → Option ℕ
+list_twice claims = lowest shows_list with_list_of [] claims None

@@ -5,7 +5,7 @@ pub use Rattle.i7_claims.specs.Numbers.{has_name}
 use Rattle.i7_claims.specs.Statements.{built_in_keys}
 use Rattle.i7_claims.specs.declared.claim.Claim.{Claim}
 use Rattle.i7_claims.specs.declared.claim.Fact.{Fact}
-use Rattle.i7_claims.specs.declared.claim.Fact.TheVariants.{Stands, Rulebook}
+use Rattle.i7_claims.specs.declared.claim.Fact.TheVariants.{Stands, Rulebook, Values}
 use Rattle.i7_claims.specs.declared.claim.Naming.{Naming}
 use Rattle.i7_claims.specs.declared.claim.Standing.{Standing}
 use Rattle.i7_claims.specs.declared.claim.Standing.TheVariants as stands
@@ -112,3 +112,17 @@ books_of claims = flat_map (λ c. books_in c.fact) claims
 abbrev pub IsBookTwice : List Claim → Fact → Type 0
 IsBookTwice before (Rulebook name) = has_name (built_in_books ++ books_of before) name ≡ true
 IsBookTwice before _ = ⊥
+
+-- ---- the lists of values, one for each kind of value
+
+abbrev pub lists_in : Fact → List (List ℕ)
+lists_in (Values listing) = listing.kind ∷ []
+lists_in _ = []
+
+abbrev pub lists_of : List Claim → List (List ℕ)
+lists_of claims = flat_map (λ c. lists_in c.fact) claims
+
+-- a kind of value whose values are listed already
+abbrev pub IsListedTwice : List Claim → Fact → Type 0
+IsListedTwice before (Values listing) = has_name (lists_of before) listing.kind ≡ true
+IsListedTwice before _ = ⊥

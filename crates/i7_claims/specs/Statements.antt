@@ -8,7 +8,7 @@ use Rattle.world_meaning.specs.declared.place.Rel.{Rel}
 use Rattle.world_meaning.specs.declared.place.Rel.TheVariants.{In, On, Carried, Worn, Part}
 use Rattle.i7_sentences.specs.declared.name.Name.{Name}
 use Rattle.i7_sentences.specs.declared.sentence.Assertion.{Assertion}
-use Rattle.i7_sentences.specs.declared.sentence.Assertion.TheVariants.{Description, DescriptionOf, Door, Way, Are, Holds, NumberOf}
+use Rattle.i7_sentences.specs.declared.sentence.Assertion.TheVariants.{Description, DescriptionOf, Door, Way, Are, Holds, NumberOf, ValueOf}
 use Rattle.i7_sentences.specs.declared.sentence.Sentence.{Sentence}
 use Rattle.i7_sentences.specs.declared.sentence.Side.{Side}
 use Rattle.i7_claims.specs.Beings.{names_said}
@@ -33,6 +33,7 @@ names_in (Are being) = names_said being
 names_in (Way way) = if way.is_room_first then way.room ∷ way.subject ∷ [] else way.subject ∷ way.room ∷ []
 names_in (DescriptionOf object text) = object ∷ []
 names_in (NumberOf property object number) = object ∷ []
+names_in (ValueOf property object value) = object ∷ []
 names_in (Door door first second) = door ∷ first.room ∷ second.room ∷ []
 names_in (Holds holder relation things) = holder ∷ things
 names_in _ = []

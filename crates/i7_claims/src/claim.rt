@@ -1,5 +1,5 @@
 //! Claims: what sentences state of names, each with its line.
-use world_meaning::{Rel, TextBytes};
+use world_meaning::{Listed, Rel, TextBytes};
 
 /// What a name stands for.
 #[derive(Debug, Drop)]
@@ -16,6 +16,15 @@ pub enum Standing {
     /// A scene that may happen again, or may not.
     Scene(bool),
     Object,
+    ValueKind,
+    Value(NamedValue),
+}
+
+/// A value, by its kind of value and its place among that kind's values, from 0.
+#[derive(Debug, Drop)]
+pub struct NamedValue {
+    pub kind: TextBytes,
+    pub place: usize,
 }
 
 /// A name stands for this.
@@ -39,6 +48,13 @@ pub struct Grant {
     pub property: TextBytes,
 }
 
+/// The values of a kind of value, in order, as they are written.
+#[derive(Debug, Drop)]
+pub struct Listing {
+    pub kind: TextBytes,
+    pub values: Listed<TextBytes>,
+}
+
 /// An object is demanded to be of a kind.
 #[derive(Debug, Drop)]
 pub struct Demand {
@@ -54,11 +70,11 @@ pub struct Placing {
     pub holder: TextBytes,
 }
 
-/// An either-or property, by its first name, is true or isn't.
+/// What an adjective says: an either-or property, by its first name, or a kind of value has this value.
 #[derive(Debug, Drop)]
 pub struct Quality {
     pub property: TextBytes,
-    pub is_true: bool,
+    pub value: Value,
 }
 
 /// What is said of a property or a variable.
@@ -68,6 +84,10 @@ pub enum Value {
     Truth(bool),
     /// A number property or a variable is this number.
     Amount(i32),
+    /// A kind of value has the value at this place of its list, counted from 0.
+    Choice(usize),
+    /// A kind of value has none of its own: another kind's value was told, or what the value isn't.
+    Never,
 }
 
 /// A property of an object has a value.
@@ -101,6 +121,9 @@ pub enum Fact {
     Lies(Lying),
     CanBe(Grant),
     HasNumber(Grant),
+    /// Objects of a kind have a value of a kind of value.
+    HasValue(Grant),
+    Values(Listing),
     Demands(Demand),
     /// An object is a room, unless a door is demanded of it.
     RoomUnlessDoor(TextBytes),

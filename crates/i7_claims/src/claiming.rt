@@ -9,6 +9,7 @@ ghost use Rattle.i7_claims.specs.declared.claim.Fact.TheVariants.{CanBe, HasNumb
 ghost use Rattle.i7_claims.specs.declared.claim.Standing.TheVariants as stands;
 
 use crate::built_in::built_in_namings;
+use crate::choosing::{add_has_value, add_values};
 use crate::claim::{Claim, Fact, Grant, Lying, Naming, Standing};
 use crate::demanding::{add_held, add_placings, add_what};
 use crate::leading::{add_door, add_way};
@@ -47,7 +48,7 @@ pub fn add_naming(
 }
 
 /// A kind and a property that it has.
-fn grant_of(alloc: Global, kind: &Name, property: &Name) -> Result<Grant, AllocError>
+pub fn grant_of(alloc: Global, kind: &Name, property: &Name) -> Result<Grant, AllocError>
     ensures { IfOk result (λ grant. grant ≡ grant_of kind.now property.now) }
 {
     Ok(Grant {
@@ -235,6 +236,13 @@ pub fn add_declares(
             add_number(alloc, claims, kind, property, line)
         }
         Assertion::Variable(name) => add_naming(alloc, claims, name, Standing::Variable, line),
+        Assertion::ValueKind(name) => add_naming(alloc, claims, name, Standing::ValueKind, line),
+        Assertion::Values { kind, values } => {
+            add_values(alloc, claims, kind, values.as_slice(), line)
+        }
+        Assertion::HasValue { kind, property } => {
+            add_has_value(alloc, claims, kind, property, line)
+        }
         _ => Ok(()),
     }
 }

@@ -106,8 +106,7 @@ fn add_qualities(
     let mut rest = qualities;
     while let [quality, after @ ..] = rest {
         let property = quality.property.as_slice();
-        let value = Value::Truth(quality.is_true);
-        add_having(alloc, claims, name, property, value, line)?;
+        add_having(alloc, claims, name, property, quality.value, line)?;
         rest = after;
     }
     Ok(())

@@ -135,6 +135,7 @@ fn take_up_all<'a>(
         }
         Assertion::DescriptionOf { object, .. } => take_up(alloc, names, object, line),
         Assertion::NumberOf { object, .. } => take_up(alloc, names, object, line),
+        Assertion::ValueOf { object, .. } => take_up(alloc, names, object, line),
         Assertion::Door {
             door,
             first,

@@ -4,8 +4,9 @@ ghost use Rattle.i7_claims.specs.Claims.{number_claim, number_claims, numbers_sa
 ghost use Rattle.i7_claims.specs.NameScans.{standing_at};
 ghost use Rattle.i7_claims.specs.Standings.{is_number_name, is_variable_name};
 
+use crate::choosing::add_choices;
 use crate::claim::{Claim, Fact, Standing, Start, Value};
-use crate::claiming::{add_declares, add_naming, key_text};
+use crate::claiming::{add_naming, key_text};
 use crate::demanding::add_having;
 use crate::standings::{Known, standing_of};
 use crate::usuals::{add_unread, add_usual, usual_kind};
@@ -109,7 +110,7 @@ fn add_start(
     }
 }
 
-/// Adds what a sentence claims of numbers, and else what it declares.
+/// Adds what a sentence claims of numbers, and else what it claims of values and declares.
 pub fn add_numbers(
     alloc: Global,
     known: &Known<'_>,
@@ -133,6 +134,6 @@ pub fn add_numbers(
         Assertion::VariableIs { variable, number } => {
             add_start(alloc, known, claims, variable, *number, line)
         }
-        _ => add_declares(alloc, claims, said, line),
+        _ => add_choices(alloc, known, claims, said, line),
     }
 }

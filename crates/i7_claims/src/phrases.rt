@@ -1,10 +1,11 @@
 //! Phrases of one name: what is said by a property's name, perhaps behind `not` or an article, or by a kind's.
-ghost use Rattle.std.specs.Prelude.{◌≡◌, ◌≤◌, IfOk, length, nat_lt, option_copied};
+ghost use Rattle.std.specs.Prelude.{◌≡◌, ◌≤◌, if◌then◌else◌, IfOk, None, Some, length, nat_lt, option_copied};
 ghost use Rattle.std.specs.List.{prefix_len};
 ghost use Rattle.i7_claims.specs.NameScans.{IsShort, standing_at};
-ghost use Rattle.i7_claims.specs.Phrases.{behind_word, denied_if, first_word, is_behind_and, is_denied, is_letter, is_name, is_phrase, is_quality, kind_said, longest_phrase, name_in, phrase_said, plain_said, quality_in, said_of, without_article, without_blank};
+ghost use Rattle.i7_claims.specs.Phrases.{behind_word, denied_if, first_word, is_behind_and, is_denied, is_letter, is_name, is_phrase, denied, is_quality, kind_said, longest_phrase, name_in, phrase_said, plain_said, quality_in, said_of, without_article, without_blank};
+ghost use Rattle.i7_claims.specs.declared.claim.Value.TheVariants.{Choice};
 
-use crate::claim::{Quality, Standing};
+use crate::claim::{NamedValue, Quality, Standing, Value};
 use crate::plurals::kind_named;
 use crate::standings::{Known, standing_of};
 use std::alloc::{AllocError, Global};
@@ -52,25 +53,50 @@ fn without_article(words: &[u8]) -> &[u8]
     }
 }
 
-fn quality(alloc: Global, property: &[u8], is_true: bool) -> Result<Quality, AllocError>
-    ensures { IfOk result (λ quality. quality ≡ record { property = property.now; is_true = is_true }) }
+fn quality(alloc: Global, property: &[u8], value: Value) -> Result<Quality, AllocError>
+    ensures { IfOk result (λ quality. quality ≡ record { property = property.now; value = value }) }
 {
     let property = TextBytes::copied(alloc, property)?;
-    Ok(Quality { property, is_true })
+    Ok(Quality { property, value })
 }
 
-/// What a name says, if it is a property's: the first that it is true, the second that it isn't.
+/// What a value's name says, but for where `and` joins names.
+fn choice(alloc: Global, is_joined: bool, value: &NamedValue) -> Result<Option<Quality>, AllocError>
+    ensures { IfOk result (λ quality. quality ≡ (if is_joined then None else Some (record { property = value.now.kind; value = Choice value.now.place }))) }
+{
+    if is_joined {
+        return Ok(None);
+    }
+    Ok(Some(quality(alloc, value.kind.as_slice(), Value::Choice(value.place))?))
+}
+
+/// What a name says: a property's first that it is true, its second that it isn't; and a value's that its kind of value has it.
 fn quality_in(
     alloc: Global,
+    is_joined: bool,
     standing: Option<&Standing>,
     name: &[u8],
 ) -> Result<Option<Quality>, AllocError>
-    ensures { IfOk result (λ quality. quality ≡ quality_in (option_copied standing.entry) name.now) }
+    ensures { IfOk result (λ quality. quality ≡ quality_in is_joined (option_copied standing.entry) name.now) }
 {
     match standing {
-        Some(Standing::First(_)) => Ok(Some(quality(alloc, name, true)?)),
-        Some(Standing::Second(first)) => Ok(Some(quality(alloc, first.as_slice(), false)?)),
+        Some(Standing::First(_)) => Ok(Some(quality(alloc, name, Value::Truth(true))?)),
+        Some(Standing::Second(first)) => {
+            Ok(Some(quality(alloc, first.as_slice(), Value::Truth(false))?))
+        }
+        Some(Standing::Value(value)) => Ok(choice(alloc, is_joined, value)?),
         _ => Ok(None),
+    }
+}
+
+/// What is said behind `not`.
+fn denied(value: Value) -> Value
+    ensures { result ≡ denied value }
+{
+    match value {
+        Value::Truth(truth) => Value::Truth(!truth),
+        Value::Amount(number) => Value::Amount(number),
+        Value::Choice(_) | Value::Never => Value::Never,
     }
 }
 
@@ -81,7 +107,7 @@ fn said_of(is_denied: bool, quality: Quality) -> Quality
     if is_denied {
         Quality {
             property: quality.property,
-            is_true: !quality.is_true,
+            value: denied(quality.value),
         }
     } else {
         quality
@@ -117,12 +143,13 @@ fn name_in(phrase: &[u8]) -> &[u8]
 fn plain_said(
     alloc: Global,
     known: &Known<'_>,
+    is_joined: bool,
     phrase: &[u8],
 ) -> Result<Option<Quality>, AllocError>
-    ensures { IfOk result (λ quality. quality ≡ plain_said (standing_at known.now) phrase.now) }
+    ensures { IfOk result (λ quality. quality ≡ plain_said (standing_at known.now) is_joined phrase.now) }
 {
     let name = name_in(phrase);
-    let quality = quality_in(alloc, standing_of(known, name), name)?;
+    let quality = quality_in(alloc, is_joined, standing_of(known, name), name)?;
     Ok(denied_if(is_denied(phrase), quality))
 }
 
@@ -144,29 +171,30 @@ pub fn phrase_said(
     ensures { IfOk result (λ quality. quality ≡ phrase_said (standing_at known.now) is_joined phrase.now) }
 {
     if !is_joined {
-        return plain_said(alloc, known, phrase);
+        return plain_said(alloc, known, false, phrase);
     }
     if is_behind_and(phrase) {
-        plain_said(alloc, known, behind_word(phrase))
+        plain_said(alloc, known, true, behind_word(phrase))
     } else {
         Ok(None)
     }
 }
 
-fn is_quality(standing: Option<&Standing>) -> bool
-    ensures { result ≡ is_quality (option_copied standing.entry) }
+fn is_quality(is_joined: bool, standing: Option<&Standing>) -> bool
+    ensures { result ≡ is_quality is_joined (option_copied standing.entry) }
 {
     match standing {
         Some(Standing::First(_)) => true,
         Some(Standing::Second(_)) => true,
+        Some(Standing::Value(_)) => !is_joined,
         _ => false,
     }
 }
 
-fn is_name(known: &Known<'_>, phrase: &[u8]) -> bool
-    ensures { result ≡ is_name (standing_at known.now) phrase.now }
+fn is_name(known: &Known<'_>, is_joined: bool, phrase: &[u8]) -> bool
+    ensures { result ≡ is_name (standing_at known.now) is_joined phrase.now }
 {
-    is_quality(standing_of(known, name_in(phrase)))
+    is_quality(is_joined, standing_of(known, name_in(phrase)))
 }
 
 /// Whether a phrase of one name says something.
@@ -175,9 +203,9 @@ pub fn is_phrase(known: &Known<'_>, is_joined: bool, phrase: &[u8]) -> bool
     ensures { result ≡ is_phrase (standing_at known.now) is_joined phrase.now }
 {
     if is_joined {
-        is_behind_and(phrase) && is_name(known, behind_word(phrase))
+        is_behind_and(phrase) && is_name(known, true, behind_word(phrase))
     } else {
-        is_name(known, phrase)
+        is_name(known, false, phrase)
     }
 }
 

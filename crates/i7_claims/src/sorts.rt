@@ -1,6 +1,6 @@
 //! The sorts of names, besides kinds, that there may be few of, each sort's names numbered by their first claim.
 ghost use Rattle.std.specs.Prelude.{◌≡◌, IfOk, OnOk, fold, map, option_map};
-ghost use Rattle.i7_claims.specs.Sorts.{built_in_either_ors, built_in_kinds, built_in_names, claimed_as, is_of, is_too_many, mention_firsts, named_if, most_names, names_as, property_names, too_many_as, with_claimed, with_name};
+ghost use Rattle.i7_claims.specs.Sorts.{built_in_either_ors, built_in_kinds, built_in_names, claimed_as, is_list_too_long, is_of, is_too_many, list_too_long, mention_firsts, named_if, most_names, names_as, property_names, too_many_as, with_claimed, with_name};
 
 use crate::claim::{Claim, Fact, Standing};
 use crate::scans::lower;
@@ -16,9 +16,10 @@ pub enum Sort {
     Variable,
     Rulebook,
     Scene,
+    ValueKind,
 }
 
-/// The most properties, variables or rulebooks, built-in properties counted.
+/// The most properties, variables, rulebooks or kinds of value, built-in properties counted, and the most values of a kind.
 const MOST: usize = 100;
 
 /// The most scenes.
@@ -43,6 +44,7 @@ fn is_of(sort: Sort, standing: &Standing) -> bool
         Standing::Number => matches!(sort, Sort::Number),
         Standing::Variable => matches!(sort, Sort::Variable),
         Standing::Scene(_) => matches!(sort, Sort::Scene),
+        Standing::ValueKind => matches!(sort, Sort::ValueKind),
         _ => false,
     }
 }
@@ -162,12 +164,13 @@ pub fn names_as(alloc: Global, sort: Sort, claims: &[Claim]) -> Result<Strings, 
     Ok(names)
 }
 
-/// The names of the properties: of the either-or ones the first, then those of the number properties.
+/// The names of the properties: of the either-or ones the first, then those of the number properties and of the kinds of value.
 pub fn property_names(alloc: Global, claims: &[Claim]) -> Result<Strings, AllocError>
     ensures { IfOk result (λ names. names ≡ property_names claims.now) }
 {
     let mut names = names_as(alloc, Sort::EitherOr, claims)?;
     add_names(alloc, Sort::Number, &mut names, claims)?;
+    add_names(alloc, Sort::ValueKind, &mut names, claims)?;
     Ok(names)
 }
 
@@ -196,4 +199,27 @@ pub fn too_many_as(alloc: Global, sort: Sort, claims: &[Claim]) -> Result<Option
         rest = after;
     }
     Ok(found)
+}
+
+/// Whether more values are listed than a kind of value may have.
+fn is_list_too_long(fact: &Fact) -> bool
+    ensures { result ≡ is_list_too_long fact.now }
+{
+    match fact {
+        Fact::Values(listing) => listing.values.as_slice().len() > MOST,
+        _ => false,
+    }
+}
+
+/// The lowest line of a list of values that is too long.
+pub fn list_too_long(claims: &[Claim]) -> Option<u32>
+    ensures { result ≡ list_too_long claims.now }
+{
+    let mut found = None;
+    let mut rest = claims;
+    while let [claim, after @ ..] = rest {
+        found = lower(is_list_too_long(&claim.fact), claim.line, found);
+        rest = after;
+    }
+    found
 }

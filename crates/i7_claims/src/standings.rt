@@ -1,6 +1,6 @@
 //! What names stand for, and the names that stand for two things.
 ghost use Rattle.std.specs.Prelude.{◌≡◌, IfOk, OnOk, None, fold, option_copied};
-ghost use Rattle.i7_claims.specs.NameScans.{IsShort, book_twice, clashes, is_book_twice, is_twice, longer, longer_claim, longer_fact, name_twice, no_standings, shows_twice, standing_at, with_book, with_claim, with_fact, with_naming};
+ghost use Rattle.i7_claims.specs.NameScans.{IsShort, book_twice, clashes, is_book_twice, is_listed_twice, is_twice, longer, longer_claim, longer_fact, name_twice, no_standings, shows_twice, standing_at, list_twice, with_book, with_claim, with_fact, with_list, with_naming};
 ghost use Rattle.i7_claims.specs.Scans.{lowest};
 ghost use Rattle.i7_claims.specs.Standings.{is_second_of, suits, suits_first, suits_second};
 
@@ -244,6 +244,39 @@ pub fn book_twice(alloc: Global, claims: &[Claim]) -> Result<Option<u32>, AllocE
     while let [claim, after @ ..] = rest {
         found = lower(is_book_twice(&books, &claim.fact), claim.line, found);
         keep_book(alloc, &mut books, &claim.fact)?;
+        rest = after;
+    }
+    Ok(found)
+}
+
+fn is_listed_twice(kinds: &Strings, fact: &Fact) -> bool
+    ensures { result ≡ is_listed_twice kinds.now fact.now }
+{
+    match fact {
+        Fact::Values(listing) => kinds.contains(listing.kind.as_slice()),
+        _ => false,
+    }
+}
+
+fn keep_list(alloc: Global, kinds: &mut Strings, fact: &Fact) -> Result<(), AllocError>
+    ensures { OnOk result (kinds.new ≡ with_list kinds.old fact.now) }
+{
+    match fact {
+        Fact::Values(listing) => kinds.mention(alloc, listing.kind.as_slice()),
+        _ => Ok(()),
+    }
+}
+
+/// The lowest line at which the values of a kind of value are listed again.
+pub fn list_twice(alloc: Global, claims: &[Claim]) -> Result<Option<u32>, AllocError>
+    ensures { IfOk result (λ found. found ≡ list_twice claims.now) }
+{
+    let mut kinds = Strings::new(alloc);
+    let mut found = None;
+    let mut rest = claims;
+    while let [claim, after @ ..] = rest {
+        found = lower(is_listed_twice(&kinds, &claim.fact), claim.line, found);
+        keep_list(alloc, &mut kinds, &claim.fact)?;
         rest = after;
     }
     Ok(found)

@@ -66,8 +66,7 @@ fn add_usuals(
     let mut rest = qualities;
     while let [quality, after @ ..] = rest {
         let property = quality.property.as_slice();
-        let value = Value::Truth(quality.is_true);
-        add_usual(alloc, claims, kind, property, value, line)?;
+        add_usual(alloc, claims, kind, property, quality.value, line)?;
         rest = after;
     }
     Ok(())

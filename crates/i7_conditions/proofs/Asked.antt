@@ -2,8 +2,8 @@
 use Rattle.std.proofs.Common.{◌≡◌, ℕ, Bool, true, false, ◌||◌, List, [], refl, sym, ap, ◌∙◌, subst}
 use Rattle.std.specs.Prelude.{Option, Some, None}
 use Rattle.play_meaning.specs.Trees as tree
-use Rattle.i7_conditions.specs.Asking.{asked_by, compared_by, denied_by, from_denied, from_numbers, of_numbers, of_object, of_scene, plain_said, scene_by}
-use Rattle.i7_conditions.specs.Clauses.{AsksBy, Compared, Denied, OfNumbers, OfObject, OfScene, Plainly, asks_over, behind_not, compared, comparison_at, is_happening, scene_named}
+use Rattle.i7_conditions.specs.Asking.{asked_by, compared_by, denied_by, from_denied, from_numbers, from_object, of_numbers, of_object, of_scene, of_value, plain_said, scene_by}
+use Rattle.i7_conditions.specs.Clauses.{AsksBy, Compared, Denied, OfNumbers, OfObject, OfScene, OfValue, Plainly, asks_over, behind_not, compared, comparison_at, has_value, is_happening, scene_named}
 use Rattle.i7_conditions.specs.Joining.{number_said}
 use Rattle.i7_conditions.specs.Numbers.{CountsAs, IsNumberFound}
 use Rattle.i7_conditions.specs.Objects.{Means}
@@ -12,6 +12,8 @@ use Rattle.i7_conditions.specs.Predicates as predicate
 use Rattle.i7_conditions.specs.Readings.{FirstOf, IsFoundAs}
 use Rattle.i7_conditions.specs.Scopes.{Scope}
 use Rattle.i7_conditions.specs.Terms.{is_over}
+use Rattle.i7_conditions.specs.Values as value
+use Rattle.i7_conditions.specs.Values.{SaysValue, value_said}
 use Rattle.i7_conditions.specs.Words.{Word}
 use Rattle.i7_conditions.specs.declared.comparison.Comparison.{Comparison}
 use Rattle.i7_conditions.specs.declared.comparison.Comparison.TheVariants.{AtLeast, AtMost, Greater, Less}
@@ -20,6 +22,7 @@ use Rattle.i7_conditions.specs.declared.found.Found.TheVariants.{Read, TooMany, 
 use Rattle.i7_conditions.proofs.Counting.{counted, numbers_found}
 use Rattle.i7_conditions.proofs.Listing.{Made, MadeOfTwo, one_found, or_found, two_found}
 use Rattle.i7_conditions.proofs.Predicated.{object_found, predicate_found}
+use Rattle.i7_conditions.proofs.Valued.{value_found}
 
 number_as : (s : Scope) (words : List Word) (found : Found tree.Number) → IsNumberFound s words found → IsFoundAs (CountsAs s words) is_over found
 number_as s words (Read m) h = h
@@ -42,6 +45,9 @@ over_said o (predicate.Same other) = refl
 over_said o (predicate.Held relation holder) = refl
 over_said o (predicate.HeldByOne relation description) = refl
 
+value_asked : (s : Scope) (subject behind : List Word) → IsFoundAs (OfValue s subject behind) asks_over (of_value s subject behind)
+value_asked s subject behind = one_found has_value (SaysValue s subject behind) value.is_over asks_over (λ v. refl) (value_said s subject behind) (value_found s subject behind)
+
 object_asked : (s : Scope) (subject behind : List Word) → IsFoundAs (OfObject s subject behind) asks_over (of_object s subject behind)
 object_asked s subject behind =
     two_found said_of (Means s subject) (Says s behind) is_deep predicate.is_over asks_over over_said (object_said s subject) (predicate_said s behind) (object_found s subject) (predicate_found s behind)
@@ -58,9 +64,11 @@ scene_asked s subject behind (Some k) false e f = λ c asks. let same : false �
 pub plain_asked : (s : Scope) (subject behind : List Word) → IsFoundAs (Plainly s subject behind) asks_over (plain_said s subject behind)
 unfolding plain_said
 plain_asked s subject behind =
-    or_found (OfObject s subject behind) (FirstOf (OfNumbers s subject behind) (OfScene s subject behind)) asks_over (of_object s subject behind) (from_numbers s subject behind) (object_asked s subject behind)
+    or_found (OfValue s subject behind) (FirstOf (OfObject s subject behind) (FirstOf (OfNumbers s subject behind) (OfScene s subject behind))) asks_over (of_value s subject behind) (from_object s subject behind)
+    (value_asked s subject behind)
+    (or_found (OfObject s subject behind) (FirstOf (OfNumbers s subject behind) (OfScene s subject behind)) asks_over (of_object s subject behind) (from_numbers s subject behind) (object_asked s subject behind)
     (or_found (OfNumbers s subject behind) (OfScene s subject behind) asks_over (of_numbers s subject behind) (of_scene s subject behind) (numbers_asked s subject behind)
-    (scene_asked s subject behind (scene_named s subject) (is_happening behind) refl refl))
+    (scene_asked s subject behind (scene_named s subject) (is_happening behind) refl refl)))
 
 -- ---- `is not`, and comparisons
 

@@ -19,3 +19,4 @@ pub mod Readings
 mod Runs
 mod Stacks
 mod Stopped
+pub mod Valued

@@ -9,7 +9,7 @@ use Rattle.play_meaning.specs.Trees as tree
 use Rattle.play_meaning.specs.Trees.{Condition, Object}
 use Rattle.play_meaning.specs.declared.tree.object.Quality.{Quality}
 use Rattle.i7_conditions.specs.Adjectives.{quality_named}
-use Rattle.i7_conditions.specs.Clauses.{Asks, AsksBy, AsksByVerb, AsksIn, Compared, Denied, Does, HasText, InTheDark, NotInTheDark, OfNumbers, OfObject, OfScene, Plainly, StandsAt, behind_not, compared, comparison_at, done_by, scene_named, split_is}
+use Rattle.i7_conditions.specs.Clauses.{Asks, AsksBy, AsksByVerb, AsksIn, Compared, Denied, Does, HasText, InTheDark, NotInTheDark, OfNumbers, OfObject, OfScene, OfValue, Plainly, StandsAt, behind_not, compared, comparison_at, done_by, has_value, scene_named, split_is}
 use Rattle.i7_conditions.specs.Conditions.{AsksAll, IsCondition, Joins, JoinsBehind, is_and, is_or}
 use Rattle.i7_conditions.specs.Describing.{Describes}
 use Rattle.i7_conditions.specs.Numbers.{CountsAs}
@@ -18,6 +18,7 @@ use Rattle.i7_conditions.specs.Predicates.{Held, HeldByOne, One, Predicate, Same
 use Rattle.i7_conditions.specs.Readings.{FirstOf}
 use Rattle.i7_conditions.specs.Relations.{relation_at}
 use Rattle.i7_conditions.specs.Scopes.{Scope}
+use Rattle.i7_conditions.specs.Values.{SaysValue}
 use Rattle.i7_conditions.specs.Words.{Word, without_article}
 use Rattle.i7_conditions.specs.declared.comparison.Comparison.{Comparison}
 use Rattle.i7_conditions.specs.declared.verb.Verb.{Verb}
@@ -27,6 +28,7 @@ use Rattle.i7_conditions.proofs.Described.{described_once}
 use Rattle.i7_conditions.proofs.Done.{at_end, same_place}
 use Rattle.i7_conditions.proofs.Listing.{IsOnce, Made, at_once, first_once, made_once, two_once}
 use Rattle.i7_conditions.proofs.Readings.{meant_once}
+use Rattle.i7_conditions.proofs.Valued.{value_once}
 
 -- ---- clauses with an `is`
 
@@ -44,9 +46,10 @@ says_once s words =
 
 plainly_once : (s : Scope) (subject behind : List Word) → IsOnce (Plainly s subject behind)
 plainly_once s subject behind =
-    first_once (OfObject s subject behind) (FirstOf (OfNumbers s subject behind) (OfScene s subject behind)) (two_once said_of (Means s subject) (Says s behind) (meant_once s subject) (says_once s behind))
+    first_once (OfValue s subject behind) (FirstOf (OfObject s subject behind) (FirstOf (OfNumbers s subject behind) (OfScene s subject behind))) (made_once has_value (SaysValue s subject behind) (value_once s subject behind))
+    (first_once (OfObject s subject behind) (FirstOf (OfNumbers s subject behind) (OfScene s subject behind)) (two_once said_of (Means s subject) (Says s behind) (meant_once s subject) (says_once s behind))
     (first_once (OfNumbers s subject behind) (OfScene s subject behind) (two_once tree.Equals (CountsAs s subject) (CountsAs s behind) (counted_once s subject) (counted_once s behind))
-    (λ c d a b. at_once (scene_named s subject) (λ (k : ℕ) (c : Condition). c ≡ tree.Happens k) (λ k c d e f. e ∙ sym f) c d (a.0, a.1, a.3) (b.0, b.1, b.3)))
+    (λ c d a b. at_once (scene_named s subject) (λ (k : ℕ) (c : Condition). c ≡ tree.Happens k) (λ k c d e f. e ∙ sym f) c d (a.0, a.1, a.3) (b.0, b.1, b.3))))
 
 asked_once : (s : Scope) (subject behind : List Word) → IsOnce (AsksBy s subject behind)
 asked_once s subject behind =

@@ -12,8 +12,10 @@ use Rattle.i7_conditions.specs.declared.meaning.Meaning.TheVariants as meaning
 
 -- ---- adjectives
 
+-- an either-or property, or a value, which is an adjective too
 abbrev pub in_quality : Meaning → Option Quality
 in_quality (meaning.Quality property side) = Some (quality.Is property side)
+in_quality (meaning.Value kind value) = Some (quality.Valued kind value)
 in_quality _ = None
 
 abbrev pub in_qualities : Option Meaning → Option Quality

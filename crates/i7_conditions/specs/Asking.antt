@@ -4,11 +4,12 @@ use Rattle.play_meaning.specs.Meant.{basic_meant, clause_meant}
 use Rattle.play_meaning.specs.Trees as tree
 use Rattle.play_meaning.specs.declared.tree.condition.Basic.{Basic}
 use Rattle.play_meaning.specs.declared.tree.condition.Clause.{Clause}
-use Rattle.i7_conditions.specs.Clauses.{behind_not, compared, comparison_at, is_happening, scene_named}
+use Rattle.i7_conditions.specs.Clauses.{behind_not, compared, comparison_at, has_value, is_happening, scene_named}
 use Rattle.i7_conditions.specs.Joining.{number_said}
 use Rattle.i7_conditions.specs.Predicates.{object_said, predicate_said, said_of}
 use Rattle.i7_conditions.specs.Readings.{one, or_else, two}
 use Rattle.i7_conditions.specs.Scopes.{Scope}
+use Rattle.i7_conditions.specs.Values.{value_said}
 use Rattle.i7_conditions.specs.Words.{Word}
 use Rattle.i7_conditions.specs.declared.comparison.Comparison.{Comparison}
 use Rattle.i7_conditions.specs.declared.found.Found.{Found}
@@ -23,6 +24,9 @@ abbrev pub found_clause : Found Clause → Found tree.Condition
 found_clause (Read clause) = Read (clause_meant clause)
 found_clause TooMany = TooMany
 found_clause Unread = Unread
+
+abbrev pub of_value : Scope → List Word → List Word → Found tree.Condition
+of_value s subject predicate = one has_value (value_said s subject predicate)
 
 abbrev pub of_object : Scope → List Word → List Word → Found tree.Condition
 of_object s subject predicate = two said_of (object_said s subject) (predicate_said s predicate)
@@ -40,8 +44,11 @@ of_scene s subject predicate = scene_by (scene_named s subject) (is_happening pr
 abbrev pub from_numbers : Scope → List Word → List Word → Found tree.Condition
 from_numbers s subject predicate = or_else (of_numbers s subject predicate) (of_scene s subject predicate)
 
+abbrev pub from_object : Scope → List Word → List Word → Found tree.Condition
+from_object s subject predicate = or_else (of_object s subject predicate) (from_numbers s subject predicate)
+
 unfoldable pub plain_said : Scope → List Word → List Word → Found tree.Condition
-plain_said s subject predicate = or_else (of_object s subject predicate) (from_numbers s subject predicate)
+plain_said s subject predicate = or_else (of_value s subject predicate) (from_object s subject predicate)
 
 abbrev pub denied_by : Scope → List Word → Option (List Word) → Found tree.Condition
 denied_by s subject None = Unread

@@ -11,6 +11,7 @@ use Rattle.i7_conditions.specs.Predicates.{Predicate, Says, is_deep, is_long, sa
 use Rattle.i7_conditions.specs.Readings.{FirstOf}
 use Rattle.i7_conditions.specs.Scopes.{Scope}
 use Rattle.i7_conditions.specs.Terms.{is_over}
+use Rattle.i7_conditions.specs.Values.{SaysValue, Valuing}
 use Rattle.i7_conditions.specs.Words.{Word, is_not}
 use Rattle.i7_conditions.specs.declared.comparison.Comparison.{Comparison}
 use Rattle.i7_conditions.specs.declared.comparison.Comparison.TheVariants.{AtLeast, AtMost, Greater, Less}
@@ -42,6 +43,13 @@ is_happening [] = false
 is_happening (word ∷ []) = is_spelled word (codes "happening")
 is_happening (word ∷ other ∷ words) = false
 
+abbrev pub has_value : Valuing → tree.Condition
+has_value v = tree.IsSo v.object (tree.Valued v.kind v.value)
+
+-- `the KIND of OBJECT is VALUE`
+abbrev pub OfValue : Scope → List Word → List Word → tree.Condition → Type 0
+OfValue s subject predicate c = (v : Valuing) × SaysValue s subject predicate v × (c ≡ has_value v)
+
 abbrev pub OfObject : Scope → List Word → List Word → tree.Condition → Type 0
 OfObject s subject predicate c = (o : tree.Object) × (p : Predicate) × Means s subject o × Says s predicate p × (c ≡ said_of o p)
 
@@ -51,8 +59,9 @@ OfNumbers s subject predicate c = (m : tree.Number) × (n : tree.Number) × Coun
 abbrev pub OfScene : Scope → List Word → List Word → tree.Condition → Type 0
 OfScene s subject predicate c = (k : ℕ) × (scene_named s subject ≡ Some k) × (is_happening predicate ≡ true) × (c ≡ tree.Happens k)
 
+-- no other adjective is named as a value is, so that a value is told where an adjective would be, in front of all else
 abbrev pub Plainly : Scope → List Word → List Word → tree.Condition → Type 0
-Plainly s subject predicate = FirstOf (OfObject s subject predicate) (FirstOf (OfNumbers s subject predicate) (OfScene s subject predicate))
+Plainly s subject predicate = FirstOf (OfValue s subject predicate) (FirstOf (OfObject s subject predicate) (FirstOf (OfNumbers s subject predicate) (OfScene s subject predicate)))
 
 abbrev pub behind_not : List Word → Option (List Word)
 behind_not [] = None

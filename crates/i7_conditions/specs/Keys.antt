@@ -30,6 +30,11 @@ property_in None = None
 property_in (Some (meaning.Number p)) = Some p
 property_in (Some _) = None
 
+abbrev pub value_kind_in : Option Meaning → Option ℕ
+value_kind_in None = None
+value_kind_in (Some (meaning.ValueKind kind)) = Some kind
+value_kind_in (Some _) = None
+
 -- the variable that words name
 abbrev pub variable_named : Scope → List Word → Option ℕ
 variable_named s words = variable_in (known s (plain_key words))
@@ -37,6 +42,10 @@ variable_named s words = variable_in (known s (plain_key words))
 -- the number property that words name
 abbrev pub property_named : Scope → List Word → Option ℕ
 property_named s words = property_in (known s (plain_key words))
+
+-- the kind of value that words name
+abbrev pub value_kind_named : Scope → List Word → Option ℕ
+value_kind_named s words = value_kind_in (known s (plain_key words))
 
 abbrev pub has_key : List ℕ → Option (List ℕ) → Bool
 has_key name None = false

@@ -28,5 +28,6 @@ pub mod Scopes
 pub mod TermForms
 pub mod Terms
 pub mod There
+pub mod Values
 pub mod Verbs
 pub mod Words

@@ -14,6 +14,8 @@ pub record Counts : Type 0 where
   pub numbers : ℕ
   pub variables : ℕ
   pub scenes : ℕ
+  -- of each kind of value, none of what is no kind of value
+  pub values : ℕ → ℕ
 
 abbrev pub IsThere : Counts → Meaning → Type 0
 IsThere z (meaning.Object o) = o < z.objects
@@ -22,6 +24,8 @@ IsThere z (meaning.Quality p side) = p < z.qualities
 IsThere z (meaning.Number p) = p < z.numbers
 IsThere z (meaning.Variable v) = v < z.variables
 IsThere z (meaning.Scene scene) = scene < z.scenes
+IsThere z (meaning.ValueKind q) = 0 < z.values q
+IsThere z (meaning.Value q v) = v < z.values q
 
 abbrev pub AreNamesThere : Counts → Meanings → Type 0
 AreNamesThere z meanings = (name : List ℕ) (m : Meaning) → meanings name ≡ Some m → IsThere z m

@@ -12,12 +12,13 @@ use play_meaning::tree::{Adjective, Quality};
 use std::alloc::{AllocError, Global};
 use world_meaning::{KindNo, TextBytes, is_spelled};
 
-/// The either-or property that a name stands for.
+/// The either-or property that a name stands for, or the value.
 fn in_quality(meaning: Meaning) -> Option<Quality>
     ensures { result ≡ in_quality meaning }
 {
     match meaning {
         Meaning::Quality(property, side) => Some(Quality::Is(property, side)),
+        Meaning::Value(kind, value) => Some(Quality::Valued(kind, value)),
         _ => None,
     }
 }
@@ -35,7 +36,7 @@ fn fixed_quality(key: &[u8]) -> Option<Quality>
     }
 }
 
-/// The either-or property of this name in small letters.
+/// The either-or property or the value of this name in small letters.
 fn property_of_name(scope: &Scope<'_>, key: &[u8]) -> Option<Quality>
     ensures { result ≡ in_qualities ((scope_of scope.now).meanings key.now) }
 {
@@ -55,7 +56,7 @@ fn quality_known(scope: &Scope<'_>, key: &[u8]) -> Option<Quality>
     }
 }
 
-/// What the words of an adjective's name say. No name has more than 32 words.
+/// What the words of an adjective's name say, without a `not` or an article. No name has more than 32 words.
 pub fn quality_named(
     alloc: Global,
     scope: &Scope<'_>,

@@ -2,13 +2,14 @@
 ghost use Rattle.std.specs.Prelude.{◌≡◌, ◌≤◌, length, Some, option_map, IfOk};
 ghost use Rattle.play_meaning.specs.Meant.{not_if};
 ghost use Rattle.play_meaning.specs.Trees as tree;
-ghost use Rattle.i7_conditions.specs.Asking.{asked_by, compared_by, denied_by, found_basic, found_clause, from_denied, from_numbers, of_numbers, of_object, of_scene, plain_said};
-ghost use Rattle.i7_conditions.specs.Clauses.{behind_not, compared, comparison_at, is_happening, scene_in, scene_named};
+ghost use Rattle.i7_conditions.specs.Asking.{asked_by, compared_by, denied_by, found_basic, found_clause, from_denied, from_numbers, from_object, of_numbers, of_object, of_scene, plain_said};
+ghost use Rattle.i7_conditions.specs.Clauses.{behind_not, compared, comparison_at, has_value, is_happening, scene_in, scene_named};
 ghost use Rattle.i7_conditions.specs.Joining.{found_number};
 ghost use Rattle.i7_conditions.specs.Objects.{found_meant};
 ghost use Rattle.i7_conditions.specs.Predicates.{found_predicate, said_of};
 ghost use Rattle.i7_conditions.specs.Readings.{one, two};
 ghost use Rattle.i7_conditions.specs.Scopes.{scope_of};
+ghost use Rattle.i7_conditions.specs.Values.{found_valuing};
 
 use crate::comparison::{Comparison, compared, comparison_at};
 use crate::found::Found;
@@ -16,12 +17,27 @@ use crate::joining::number_said;
 use crate::key::known;
 use crate::meaning::Meaning;
 use crate::object::object_said;
-use crate::predicate::{Predicate, predicate_said, said_of};
+use crate::predicate::{Predicate, plainly, predicate_said, said_of};
 use crate::scope::Scope;
+use crate::value::{Valuing, value_said};
 use crate::word::is_not;
-use play_meaning::tree::{Basic, Clause, Number, Referent};
+use play_meaning::tree::{Basic, Clause, Number, Quality, Referent};
 use std::alloc::{AllocError, Global};
 use world_meaning::{TextBytes, is_spelled};
+
+/// Whether an object has this value.
+fn of_value(found: Found<Valuing>) -> Found<Basic>
+    ensures { found_basic result ≡ one has_value (found_valuing found) }
+{
+    match found {
+        Found::Read(said) => {
+            let adjective = plainly(Quality::Valued(said.kind, said.value));
+            Found::Read(Basic::IsSo(said.object, adjective))
+        }
+        Found::TooMany => Found::TooMany,
+        Found::Unread => Found::Unread,
+    }
+}
 
 /// What is asked of an object.
 fn of_object(object: Found<Referent>, predicate: Found<Predicate>) -> Found<Basic>
@@ -148,6 +164,24 @@ fn from_numbers(
     }
 }
 
+/// What is asked of an object, or else of numbers or of a scene.
+fn from_object(
+    alloc: Global,
+    scope: &Scope<'_>,
+    subject: &[TextBytes],
+    predicate: &[TextBytes],
+) -> Result<Found<Basic>, AllocError>
+    requires few { length (scope_of scope.now).repeats ≤ 255 }
+    ensures { IfOk result (λ found. found_basic found ≡ from_object (scope_of scope.now) subject.now predicate.now) }
+{
+    let object = object_said(alloc, scope, subject)?;
+    let said = predicate_said(alloc, scope, predicate)?;
+    match of_object(object, said) {
+        Found::Unread => Ok(from_numbers(alloc, scope, subject, predicate)?),
+        found => Ok(found),
+    }
+}
+
 /// What is asked without a `not` of its own.
 #[tactic(auto, unfolding(crate::specs::Asking::plain_said))]
 fn plain_said(
@@ -159,10 +193,9 @@ fn plain_said(
     requires few { length (scope_of scope.now).repeats ≤ 255 }
     ensures { IfOk result (λ found. found_basic found ≡ plain_said (scope_of scope.now) subject.now predicate.now) }
 {
-    let object = object_said(alloc, scope, subject)?;
-    let said = predicate_said(alloc, scope, predicate)?;
-    match of_object(object, said) {
-        Found::Unread => Ok(from_numbers(alloc, scope, subject, predicate)?),
+    let valued = value_said(alloc, scope, subject, predicate)?;
+    match of_value(valued) {
+        Found::Unread => Ok(from_object(alloc, scope, subject, predicate)?),
         found => Ok(found),
     }
 }

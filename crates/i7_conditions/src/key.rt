@@ -1,7 +1,8 @@
-//! Names that are no objects, by their words: variables and number properties; and words cut at their first `of`.
+//! Names that are no objects, by their words: variables, number properties and kinds of value; and words cut at their first
+//! `of`.
 ghost use Rattle.std.specs.Prelude.{◌≡◌, ◌≤◌, length, option_map, vec_items, IfOk};
 ghost use Rattle.std.specs.List.{position_or_len};
-ghost use Rattle.i7_conditions.specs.Keys.{has_key, is_named, is_of, known, plain_key, property_in, property_named, split_of, variable_in, variable_named};
+ghost use Rattle.i7_conditions.specs.Keys.{has_key, is_named, is_of, known, plain_key, property_in, property_named, split_of, value_kind_in, value_kind_named, variable_in, variable_named};
 ghost use Rattle.i7_conditions.specs.Scopes.{scope_of};
 
 use crate::meaning::Meaning;
@@ -84,6 +85,28 @@ pub fn property_named(
 {
     let meaning = known(alloc, scope, words)?;
     Ok(property_in(meaning))
+}
+
+/// The kind of value that a name stands for.
+fn value_kind_in(meaning: Option<Meaning>) -> Option<u8>
+    ensures { result ≡ value_kind_in meaning }
+{
+    match meaning {
+        Some(Meaning::ValueKind(kind)) => Some(kind),
+        _ => None,
+    }
+}
+
+/// The kind of value that words name.
+pub fn value_kind_named(
+    alloc: Global,
+    scope: &Scope<'_>,
+    words: &[TextBytes],
+) -> Result<Option<u8>, AllocError>
+    ensures { IfOk result (λ kind. kind ≡ value_kind_named (scope_of scope.now) words.now) }
+{
+    let meaning = known(alloc, scope, words)?;
+    Ok(value_kind_in(meaning))
 }
 
 /// Whether words spell this name, one article in front being free.

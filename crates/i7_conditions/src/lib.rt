@@ -30,10 +30,11 @@ mod relation;
 mod run;
 mod scope;
 mod term;
+mod value;
 mod verb;
 mod word;
 
-pub use adjective::adjective_named;
+pub use adjective::{adjective_named, quality_named};
 pub use asking::scene_named;
 pub use clause::clause_of;
 pub use condition::{condition_of, condition_said, one_condition_is_meant};
@@ -50,4 +51,5 @@ pub use number::{number_of, one_number_is_meant};
 pub use object::{object_of, object_said, one_object_is_meant};
 pub use relation::relation_at;
 pub use scope::Scope;
+pub use value::{Valuing, kind_and_object, value_said};
 pub use word::{key_of, without_article};

@@ -13,4 +13,8 @@ pub enum Meaning {
     Number(u8),
     Variable(u8),
     Scene(u8),
+    /// A kind of value.
+    ValueKind(u8),
+    /// A value, by its kind of value and its number among the values of that.
+    Value(u8, u8),
 }

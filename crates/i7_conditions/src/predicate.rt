@@ -124,7 +124,7 @@ fn from_one(
 }
 
 /// An adjective without a `not` in front.
-fn plainly(quality: Quality) -> Adjective
+pub fn plainly(quality: Quality) -> Adjective
     ensures { adjective_meant result ≡ quality_meant quality }
 {
     Adjective {

@@ -12,7 +12,7 @@ use Rattle.i7_sentences.specs.declared.sentence.Assertion.TheVariants.{Descripti
 use Rattle.world_meaning.specs.declared.place.Rel.{Rel}
 use Rattle.world_meaning.specs.declared.place.Rel.TheVariants.{In, On, Carried, Worn, Part}
 use Rattle.world_meaning.specs.declared.fault.FaultCode.{FaultCode}
-use Rattle.world_meaning.specs.declared.fault.FaultCode.TheVariants.{Cycle, NoRoom, TooMany, Twice, TwoPlaces, UnknownName, WrongKind}
+use Rattle.world_meaning.specs.declared.fault.FaultCode.TheVariants.{Cycle, NoRoom, NoValues, TooMany, Twice, TwoPlaces, UnknownName, WrongKind}
 use Rattle.i7_kinds.specs.Bounds.{AreWithin, IsSmallTarget, IsWithin, LeadWithin}
 use Rattle.i7_kinds.specs.Demands.{first_target, line_at, implied_in, implied_leads, is_exit, stated_in, stated_leads, way_back, way_there, way_through}
 use Rattle.i7_claims.specs.Scans.{earlier}
@@ -179,6 +179,7 @@ pub record NoFaults (faults : Faults) (mentions : List NameAt) (room : Option �
   pub few : 13 + length mentions ≤ 1000
   pub too_many : faults.too_many ≡ None
   pub roomy : no_room room ≡ None
+  pub listed : faults.unlisted ≡ None
 
 pub frame_parts : (faults : Faults) (mentions : List NameAt) (room : Option ℕ) → frame_refusal faults mentions room ≡ None → NoFaults faults mentions room
 unfolding frame_refusal
@@ -188,7 +189,8 @@ frame_parts faults mentions room none =
     let v = first_none_both (refusal_at Cycle faults.cycle) _ u.1 in
     let b = first_none_both (refusal_at WrongKind faults.wrong) _ v.1 in
     let c = first_none_both (refusal_at TwoPlaces faults.second) _ b.1 in
-    let d = first_none_both (refusal_at TooMany (earlier (object_too_many mentions) faults.too_many)) (refusal_at NoRoom (no_room room)) c.1 in
+    let d = first_none_both (refusal_at TooMany (earlier (object_too_many mentions) faults.too_many)) _ c.1 in
+    let e = first_none_both (refusal_at NoRoom (no_room room)) (refusal_at NoValues faults.unlisted) d.1 in
     let many = earlier_none (object_too_many mentions) faults.too_many (unrefused TooMany (earlier (object_too_many mentions) faults.too_many) d.0) in
     record {
       unknown = unrefused UnknownName faults.unknown u.0;
@@ -196,5 +198,6 @@ frame_parts faults mentions room none =
       wrong = unrefused WrongKind faults.wrong b.0;
       few = few_objects mentions many.0;
       too_many = many.1;
-      roomy = unrefused NoRoom (no_room room) d.1;
+      roomy = unrefused NoRoom (no_room room) e.0;
+      listed = unrefused NoValues faults.unlisted e.1;
     }

@@ -234,5 +234,5 @@ said_so sentences tale o object text means at shown =
       under = subst (λ (k : ℕ). Under s.parents k room_kind) (ap (λ (x : Object). x.kind) (same_object (object_at tale o) r.0 object r.1 at) ∙ kind) under;
     } in
     ap (λ (x : Object). x.description) (sym made.1) ∙ description_made m o made.0
-    ∙ described_so s.parents knowns o statements (λ again. none said_twice (line_of_statement again.item) (inr (inr (inl (again, refl))))) text
+    ∙ described_so s.parents knowns o statements (λ again. none said_twice (line_of_statement again.item) (inr (inr (inr (inl (again, refl)))))) text
     (shown_said s.parents knowns named tale o text room sentences shown)

@@ -74,7 +74,7 @@ module _ {X : Type 0} (kinds : List X) (many : 10 ≤ length kinds) (givens : Li
       (list_any-append (λ m. eqb k m) base (kinds_given property givens) ∙ or_left (is_among k base) (is_among k (kinds_given property givens)) has)
       (omega arith) (omega (arith, many, below_of 10 base k below has))
 
-  flag_right : (property : ℕ) (base : List ℕ) → is_right_grant (length kinds) (flag_of kinds givens property base) ≡ true
+  pub flag_right : (property : ℕ) (base : List ℕ) → is_right_grant (length kinds) (flag_of kinds givens property base) ≡ true
   flag_right property base =
       let among = base ++ kinds_given property givens in
       and_from (are_rising 0 (rising_of among 0 kinds)) (list_all (is_below (length kinds)) (rising_of among 0 kinds)) (rises among 0 0 kinds (omega arith)) (stays_below among (length kinds) 0 kinds (omega arith))

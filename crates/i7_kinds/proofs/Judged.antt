@@ -15,12 +15,13 @@ use Rattle.i7_claims.specs.declared.sorts.Sort.TheVariants as sort
 use Rattle.i7_claims.proofs.Firsts.{first_none}
 use Rattle.i7_claims.proofs.BookScans.{book_lowest}
 use Rattle.i7_claims.proofs.NameScans.{name_lowest}
-use Rattle.i7_claims.proofs.SortScans.{too_many_lowest}
+use Rattle.i7_claims.proofs.ListScans.{list_lowest}
+use Rattle.i7_claims.proofs.SortScans.{lists_lowest, too_many_lowest}
 use Rattle.i7_kinds.specs.Actions.{actions_said, with_actions}
 use Rattle.i7_kinds.specs.Demands.{descriptions_of, line_at, line_of_statement}
 use Rattle.i7_kinds.specs.FirstShown.{IsFound, IsShownAt}
 use Rattle.i7_lexer.specs.Rising.{LinesRise}
-use Rattle.i7_kinds.specs.Judged.{AreJudged, IsRefusedFor, Refusal, said_twice, names_nothing, closes_cycle, wrong_kind, stands_twice, one_too_many, roomless, too_long, Shows, code_of, knowns_said, parents_said, scope_said, turn_of}
+use Rattle.i7_kinds.specs.Judged.{AreJudged, IsRefusedFor, Refusal, said_twice, names_nothing, closes_cycle, wrong_kind, stands_twice, one_too_many, roomless, valueless, too_long, Shows, code_of, knowns_said, parents_said, scope_said, turn_of}
 use Rattle.i7_kinds.specs.LongNames.{longer_name}
 use Rattle.i7_kinds.specs.RefusalsShown.{IsRefusedRoomless}
 use Rattle.i7_kinds.specs.Suits.{first_room}
@@ -36,6 +37,7 @@ use Rattle.i7_kinds.proofs.LinesRise.{statements_rise}
 use Rattle.i7_kinds.proofs.LongNames.{longer_lowest}
 use Rattle.i7_kinds.proofs.OffPath.{built_in_named, off_lowest}
 use Rattle.i7_kinds.proofs.PlaceScans.{holder_cycle_lowest, second_lowest}
+use Rattle.i7_kinds.proofs.Valueless.{unlisted_lowest}
 use Rattle.i7_kinds.proofs.ValueScans.{contrary_lowest}
 use Rattle.i7_kinds.proofs.WrongKinds.{unsuited_lowest, wrong_found}
 
@@ -81,6 +83,7 @@ at_turn (suc (suc (suc zero))) = wrong_kind
 at_turn (suc (suc (suc (suc zero)))) = stands_twice
 at_turn (suc (suc (suc (suc (suc zero))))) = one_too_many
 at_turn (suc (suc (suc (suc (suc (suc zero)))))) = roomless
+at_turn (suc (suc (suc (suc (suc (suc (suc zero))))))) = valueless
 at_turn _ = too_long
 
 turn_back : (r : Refusal) → at_turn (turn_of r) ≡ r
@@ -92,12 +95,13 @@ turn_back wrong_kind = refl
 turn_back stands_twice = refl
 turn_back one_too_many = refl
 turn_back roomless = refl
+turn_back valueless = refl
 turn_back too_long = refl
 
 same_turn : (a b : Refusal) → turn_of a ≡ turn_of b → a ≡ b
 same_turn a b e = sym (turn_back a) ∙ ap at_turn e ∙ turn_back b
 
-turns_end : (r : Refusal) → turn_of r < 8
+turns_end : (r : Refusal) → turn_of r < 9
 turns_end said_twice = omega arith
 turns_end names_nothing = omega arith
 turns_end closes_cycle = omega arith
@@ -105,6 +109,7 @@ turns_end wrong_kind = omega arith
 turns_end stands_twice = omega arith
 turns_end one_too_many = omega arith
 turns_end roomless = omega arith
+turns_end valueless = omega arith
 turns_end too_long = omega arith
 
 module _ (sentences : List Sentence) (Rise : Type 0) where
@@ -136,7 +141,7 @@ module _ (sentences : List Sentence) (Rise : Type 0) where
     λ other line le lt shown. ⊎_elim (λ same. h line (subst (λ (x : Refusal). Shows sentences x line) same shown)) (λ more. later.5 other line more lt shown) (this_or_later r other le),
   )
 
-  no_turn : JudgedFrom 8 None
+  no_turn : JudgedFrom 9 None
   unfolding JudgedFrom
   no_turn = λ r line le shown. absurd (omega (arith, le, turns_end r))
 
@@ -154,15 +159,16 @@ module _ (sentences : List Sentence) (Rise : Type 0) where
 
 -- ---- the refusals of sentences
 
-one_chain : (a b c d e f g limit : Option Fault) → first_of (first_of a (first_of b (first_of c (first_of d (first_of e (first_of f g)))))) limit
-    ≡ first_of a (first_of b (first_of c (first_of d (first_of e (first_of f (first_of g limit))))))
-one_chain (Some x) b c d e f g limit = refl
-one_chain None (Some x) c d e f g limit = refl
-one_chain None None (Some x) d e f g limit = refl
-one_chain None None None (Some x) e f g limit = refl
-one_chain None None None None (Some x) f g limit = refl
-one_chain None None None None None (Some x) g limit = refl
-one_chain None None None None None None g limit = refl
+one_chain : (a b c d e f g h limit : Option Fault) → first_of (first_of a (first_of b (first_of c (first_of d (first_of e (first_of f (first_of g h))))))) limit
+    ≡ first_of a (first_of b (first_of c (first_of d (first_of e (first_of f (first_of g (first_of h limit)))))))
+one_chain (Some x) b c d e f g h limit = refl
+one_chain None (Some x) c d e f g h limit = refl
+one_chain None None (Some x) d e f g h limit = refl
+one_chain None None None (Some x) e f g h limit = refl
+one_chain None None None None (Some x) f g h limit = refl
+one_chain None None None None None (Some x) g h limit = refl
+one_chain None None None None None None (Some x) h limit = refl
+one_chain None None None None None None None h limit = refl
 
 module _ (sentences : List Sentence) where
   abbrev Rise : Type 0
@@ -185,9 +191,10 @@ module _ (sentences : List Sentence) where
       let claims = claims_of sentences in
       either_if Rise _ _ _ _ (if_lowest Rise _ _ (name_lowest claims))
       (either_if Rise _ _ _ _ (if_lowest Rise _ _ (book_lowest claims))
+      (either_if Rise _ _ _ _ (if_lowest Rise _ _ (list_lowest claims))
       (either_if Rise _ _ _ _ (statement_if _ _ (again_found s.parents (knowns_said sentences) (stated_by sentences)))
       (either_if Rise _ _ _ _ (if_lowest Rise _ _ (contrary_lowest Objects s claims))
-      (either_if Rise _ _ _ _ (if_lowest Rise _ _ (contrary_lowest Kinds s claims)) (if_lowest Rise _ _ (contrary_lowest Variables s claims))))))
+      (either_if Rise _ _ _ _ (if_lowest Rise _ _ (contrary_lowest Kinds s claims)) (if_lowest Rise _ _ (contrary_lowest Variables s claims)))))))
 
   unknown_if : LowestIf Rise (Shows sentences names_nothing) all_faults.unknown
   unknown_if = if_lowest Rise _ _ (unknown_lowest (scope_said sentences).kinds (claims_of sentences))
@@ -220,7 +227,9 @@ module _ (sentences : List Sentence) where
       (either_if Rise _ _ _ _ (if_lowest Rise _ _ (too_many_lowest sort.EitherOr claims))
       (either_if Rise _ _ _ _ (if_lowest Rise _ _ (too_many_lowest sort.Number claims))
       (either_if Rise _ _ _ _ (if_lowest Rise _ _ (too_many_lowest sort.Variable claims))
-      (either_if Rise _ _ _ _ (if_lowest Rise _ _ (too_many_lowest sort.Rulebook claims)) (if_lowest Rise _ _ (too_many_lowest sort.Scene claims)))))))
+      (either_if Rise _ _ _ _ (if_lowest Rise _ _ (too_many_lowest sort.Rulebook claims))
+      (either_if Rise _ _ _ _ (if_lowest Rise _ _ (too_many_lowest sort.Scene claims))
+      (either_if Rise _ _ _ _ (if_lowest Rise _ _ (too_many_lowest sort.ValueKind claims)) (if_lowest Rise _ _ (lists_lowest claims)))))))))
 
   roomless_at : (found : Option ℕ) → IsRefusedRoomless (parents_said sentences) (knowns_said sentences) found → LowestIf Rise (Shows sentences roomless) found
   unfolding LowestIf
@@ -229,6 +238,9 @@ module _ (sentences : List Sentence) where
 
   roomless_if : LowestIf Rise (Shows sentences roomless) (no_room (first_room (parents_said sentences) (knowns_said sentences)))
   roomless_if = roomless_at _ (roomless_refused (parents_said sentences) (knowns_said sentences))
+
+  valueless_if : LowestIf Rise (Shows sentences valueless) all_faults.unlisted
+  valueless_if = if_lowest Rise _ _ (unlisted_lowest (claims_of sentences))
 
   abbrev all_too_long : Option ℕ
   all_too_long = earlier (name_too_long (named_by sentences).mentions)
@@ -255,7 +267,7 @@ module _ (sentences : List Sentence) where
       subst (λ (f : Option Fault). JudgedFrom sentences Rise 0 f)
       (sym (one_chain (refusal_at (code_of said_twice) all_faults.twice) (refusal_at (code_of names_nothing) all_faults.unknown) (refusal_at (code_of closes_cycle) all_faults.cycle)
       (refusal_at (code_of wrong_kind) all_faults.wrong) (refusal_at (code_of stands_twice) all_faults.second) (refusal_at (code_of one_too_many) all_too_many)
-      (refusal_at (code_of roomless) none_room)
+      (refusal_at (code_of roomless) none_room) (refusal_at (code_of valueless) all_faults.unlisted)
       (refusal_at (code_of too_long) all_too_long)))
       (one_turn sentences Rise said_twice _ _ twice_if
       (one_turn sentences Rise names_nothing _ _ unknown_if
@@ -264,8 +276,9 @@ module _ (sentences : List Sentence) where
       (one_turn sentences Rise stands_twice _ _ second_if
       (one_turn sentences Rise one_too_many _ _ too_many_if
       (one_turn sentences Rise roomless _ _ roomless_if
-      (subst (λ (f : Option Fault). JudgedFrom sentences Rise 7 f) (first_none (refusal_at (code_of too_long) all_too_long))
-      (one_turn sentences Rise too_long _ _ long_if (no_turn sentences Rise))))))))))
+      (one_turn sentences Rise valueless _ _ valueless_if
+      (subst (λ (f : Option Fault). JudgedFrom sentences Rise 8 f) (first_none (refusal_at (code_of too_long) all_too_long))
+      (one_turn sentences Rise too_long _ _ long_if (no_turn sentences Rise)))))))))))
 
   pub judged : AreJudged sentences (tale_said sentences)
   judged = judged_as sentences Rise the_refusal (actions_said sentences) _ (λ rise. rise) judged_refusal

@@ -15,7 +15,7 @@ use Rattle.i7_claims.specs.Standings.{has_name}
 use Rattle.i7_claims.specs.Statements.{number_in}
 use Rattle.i7_claims.specs.declared.claim.Claim.{Claim}
 use Rattle.i7_claims.specs.declared.claim.Fact.{Fact}
-use Rattle.i7_claims.specs.declared.claim.Fact.TheVariants.{Lies, CanBe, HasNumber, Demands, Usually, Unread}
+use Rattle.i7_claims.specs.declared.claim.Fact.TheVariants.{Lies, CanBe, HasNumber, HasValue, Demands, Usually, Unread}
 use Rattle.i7_kinds.proofs.Bounds.{number-within}
 use Rattle.i7_claims.proofs.Lowest.{lowest_is, none_shown}
 use Rattle.i7_claims.proofs.NameScans.{never}
@@ -27,6 +27,7 @@ unknown_decides : (names : List (List ℕ)) (f : Fact) → Decides (is_unknown n
 unknown_decides names (Lies l) = not_decides (has_name names l.parent)
 unknown_decides names (CanBe g) = not_decides (has_name names g.kind)
 unknown_decides names (HasNumber g) = not_decides (has_name names g.kind)
+unknown_decides names (HasValue g) = not_decides (has_name names g.kind)
 unknown_decides names (Demands d) = not_decides (has_name names d.kind)
 unknown_decides names (Usually u) = not_decides (has_name names u.kind)
 unknown_decides names (Unread words) = (λ h. tt, λ h. refl)
@@ -146,6 +147,9 @@ variables_few claims h = names_few sort.Variable claims [] (omega arith) h
 
 pub numbers_few : (claims : List Claim) → too_many_as sort.Number claims ≡ None → length (names_as sort.Number claims) ≤ 100
 numbers_few claims h = names_few sort.Number claims [] (omega arith) h
+
+pub value_kinds_few : (claims : List Claim) → too_many_as sort.ValueKind claims ≡ None → length (names_as sort.ValueKind claims) ≤ 100
+value_kinds_few claims h = names_few sort.ValueKind claims [] (omega arith) h
 
 pub either_ors_few : (claims : List Claim) → too_many_as sort.EitherOr claims ≡ None → length (names_as sort.EitherOr claims) ≤ 100
 unfolding built_in_either_ors

@@ -1,6 +1,6 @@
 -- Sentences that declare claim just that, and others claim of names only that they are objects'; so in a source where no
 -- name stands for two things each kind is declared once.
-use Rattle.std.proofs.Common.{◌≡◌, ℕ, ℤ, zero, suc, Bool, true, false, cond, ◌||◌, List, [], ◌∷◌, ◌++◌, map, Option, refl, sym, ap, ◌∙◌, subst, inl, inr, ◌⊎◌, ⊎_elim, true≢false}
+use Rattle.std.proofs.Common.{◌+◌, ◌≡◌, ℕ, ℤ, zero, suc, Bool, true, false, cond, ◌||◌, List, [], ◌∷◌, ◌++◌, map, Option, refl, sym, ap, ◌∙◌, subst, inl, inr, ◌⊎◌, ⊎_elim, true≢false}
 use Rattle.std.specs.Prelude.{Some, None, bytes_eq, codes, flat_map, is_some, slice_get}
 use Rattle.std.proofs.lemmas.List.Folds.{list_any-append}
 use Rattle.std.proofs.lemmas.Slice.Eq.{bytes_eq-Decides}
@@ -16,7 +16,7 @@ use Rattle.i7_sentences.specs.declared.sentence.Being.{Being}
 use Rattle.i7_sentences.specs.declared.sentence.Holder.{Holder}
 use Rattle.i7_sentences.specs.declared.sentence.Sentence.{Sentence}
 use Rattle.i7_claims.specs.Beings.{names_said}
-use Rattle.i7_claims.specs.Claims.{being_claims, claims_in, claims_of, claims_said, declares_said, demands, demands_said, has_all, has_quality, holder_demands, kind_said, known_by}
+use Rattle.i7_claims.specs.Claims.{being_claims, claims_in, claims_of, claims_said, declares_said, demands, demands_said, has_all, has_quality, holder_demands, kind_said, known_by, choice_said, has_choice, usually_choice, values_from}
 use Rattle.i7_claims.specs.Claims.{lies, named, number_claim, placed, placings_said, qualities_said, start_claim, usual_claims, usual_kind, usual_number, usual_quality, what_claims, worn_claims}
 use Rattle.i7_claims.specs.NameScans.{Standings, built_in_standings, clashes, name_twice, shows_twice, with_claim, with_fact}
 use Rattle.i7_claims.specs.Firsts.{first_of, given}
@@ -28,6 +28,7 @@ use Rattle.i7_claims.specs.Sorts.{built_in_kinds}
 use Rattle.i7_claims.specs.Statements.{key_of}
 use Rattle.i7_claims.specs.Wording.{usual_said, what_said}
 use Rattle.i7_claims.specs.declared.claim.Claim.{Claim}
+use Rattle.i7_claims.specs.declared.claim.Value.{Value}
 use Rattle.i7_claims.specs.declared.claim.Fact.{Fact}
 use Rattle.i7_claims.specs.declared.claim.Fact.TheVariants.{Stands, Lies, Rulebook}
 use Rattle.i7_claims.specs.declared.claim.Standing.{Standing}
@@ -124,6 +125,14 @@ plain_usual_number known property kind number line = plain_if (is_number_name (k
 plain_start : (known : Standings) (variable : Name) (number : ℤ) (line : ℕ) → IsPlain (start_claim known variable number line).fact
 plain_start known variable number line = plain_if (is_variable_name (known (key_of variable.text))) _ _ tt tt
 
+plain_choice : (property object value : Name) (line : ℕ) (choice : Option Value) → IsPlain (has_choice property object value line choice).fact
+plain_choice property object value line None = tt
+plain_choice property object value line (Some choice) = tt
+
+plain_usual_choice : (kind : List ℕ) (property value : Name) (line : ℕ) (choice : Option Value) → IsPlain (usually_choice kind property value line choice).fact
+plain_usual_choice kind property value line None = tt
+plain_usual_choice kind property value line (Some choice) = tt
+
 -- a sentence declares what it claims, or declares nothing and claims what is plain
 abbrev pub DeclaresOrNot : Standings → Assertion → ℕ → Type 0
 DeclaresOrNot known said line = ((declares_said said line ≡ []) × EachFact IsPlain (claims_said known said line)) ⊎ (claims_said known said line ≡ declares_said said line)
@@ -143,6 +152,8 @@ declares_or_not known (asserts.Usually kind adjectives) line = inl (refl, plain_
 declares_or_not known (asserts.NumberOf property object number) line = inl (refl, (refl, (plain_number known property object number line, tt)))
 declares_or_not known (asserts.UsuallyNumber property kind number) line = inl (refl, (plain_usual_number known property kind number line, tt))
 declares_or_not known (asserts.VariableIs variable number) line = inl (refl, (plain_start known variable number line, tt))
+declares_or_not known (asserts.ValueOf property object value) line = inl (refl, (refl, (plain_choice property object value line (choice_said known property value), tt)))
+declares_or_not known (asserts.UsuallyValue property kind value) line = inl (refl, (plain_usual_choice (usual_kind known kind) property value line (choice_said known property value), tt))
 declares_or_not known _ line = inr refl
 
 -- ---- kinds
@@ -219,6 +230,10 @@ abbrev Later : Standings → List Sentence → Type 0
 Later known0 sentences = (known : Standings) (names : List (List ℕ)) → AreNamed known names → lowest shows_twice with_claim known (flat_map (claims_in known0) sentences) None ≡ None
     → AreNew names (flat_map (claims_in known0) sentences)
 
+no_kind_values : (kind : List ℕ) (line place : ℕ) (values : List Name) → EachFact IsNoKind (values_from kind line place values)
+no_kind_values kind line place [] = tt
+no_kind_values kind line place (value ∷ values) = (tt, no_kind_values kind line (1 + place) values)
+
 declared_new : (said : Assertion) (line : ℕ) (rest : List Claim) (known : Standings) (names : List (List ℕ)) → AreNamed known names
     → lowest shows_twice with_claim known (declares_said said line ++ rest) None ≡ None
     → ((now : Standings) (more : List (List ℕ)) → AreNamed now more → lowest shows_twice with_claim now rest None ≡ None → AreNew more rest) → AreNew names (declares_said said line ++ rest)
@@ -233,6 +248,12 @@ declared_new (asserts.Scene name recurs) line rest known names all none later = 
 declared_new (asserts.NumberProperty kind property) line rest known names all none later = no_kinds (declares_said (asserts.NumberProperty kind property) line) rest known names
     (tt, (tt, tt)) all none (λ now h k. later now names h k)
 declared_new (asserts.Variable name) line rest known names all none later = no_kinds (declares_said (asserts.Variable name) line) rest known names (tt, tt) all none (λ now h k. later now names h k)
+declared_new (asserts.ValueKind name) line rest known names all none later = no_kinds (declares_said (asserts.ValueKind name) line) rest known names (tt, tt) all none
+    (λ now h k. later now names h k)
+declared_new (asserts.Values kind values) line rest known names all none later = no_kinds (declares_said (asserts.Values kind values) line) rest known names
+    (tt, no_kind_values (key_of kind.text) line 0 values) all none (λ now h k. later now names h k)
+declared_new (asserts.HasValue kind property) line rest known names all none later = no_kinds (declares_said (asserts.HasValue kind property) line) rest known names
+    (tt, tt) all none (λ now h k. later now names h k)
 declared_new _ line rest known names all none later = later known names all none
 
 sentence_new : (known0 : Standings) (said : Assertion) (line : ℕ) (rest : List Claim) (known : Standings) (names : List (List ℕ)) → DeclaresOrNot known0 said line → AreNamed known names

@@ -1,6 +1,7 @@
 pub mod Granting
 pub mod Rooted
 pub mod KindScans
+pub mod Valueless
 pub mod Named
 pub mod DoorScans
 pub mod NamesOnce

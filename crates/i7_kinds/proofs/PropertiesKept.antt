@@ -1,5 +1,5 @@
 -- The kinds of a tale have just the properties that sentences may say of their objects.
-use Rattle.std.proofs.Common.{◌≡◌, ℕ, zero, suc, ◌+◌, ◌≤◌, ◌<◌, Bool, true, false, ◌||◌, ◌&&◌, List, [], ◌∷◌, ◌++◌, length, Option, refl, sym, ap, ◌∙◌, subst, length-append, arith, inl, inr, ◌⊎◌, ⊎_elim, true≢false}
+use Rattle.std.proofs.Common.{◌≡◌, ℕ, zero, suc, ◌+◌, ◌≤◌, ◌<◌, Bool, true, false, ◌||◌, ◌&&◌, List, [], ◌∷◌, ◌++◌, length, map, Option, refl, sym, ap, ◌∙◌, subst, length-append, arith, inl, inr, ◌⊎◌, ⊎_elim, true≢false}
 use Rattle.std.specs.Prelude.{◌==◌, Some, None, Decides, Result, fold, slice_get}
 use Rattle.std.specs.List.{list_all, list_any}
 use Rattle.std.proofs.lemmas.Bool.{eqb-true, eq-eqb, ltb-true, cases_Bool, and_parts}
@@ -7,6 +7,7 @@ use Rattle.std.proofs.lemmas.List.Folds.{list_any-append}
 use Rattle.world_meaning.specs.Declarations.{is_among, is_below, is_had}
 use Rattle.world_meaning.specs.Kinds.{is_under}
 use Rattle.world_meaning.specs.declared.declared.Granted.{Granted}
+use Rattle.world_meaning.specs.declared.declared.ValueKind.{ValueKind}
 use Rattle.world_meaning.specs.declared.fault.Fault.{Fault}
 use Rattle.world_meaning.specs.declared.tale.Tale.{Tale}
 use Rattle.i7_claims.specs.Claims.{claims_of}
@@ -15,16 +16,17 @@ use Rattle.i7_claims.specs.Sorts.{built_in_either_ors, names_as, property_names}
 use Rattle.i7_claims.specs.Statements.{named_by, stated_by}
 use Rattle.i7_claims.specs.declared.claim.Claim.{Claim}
 use Rattle.i7_claims.specs.declared.claim.Fact.{Fact}
-use Rattle.i7_claims.specs.declared.claim.Fact.TheVariants.{CanBe, HasNumber, Lies}
+use Rattle.i7_claims.specs.declared.claim.Fact.TheVariants.{CanBe, HasNumber, HasValue, Lies}
 use Rattle.i7_claims.specs.declared.sorts.Sort.TheVariants as sort
 use Rattle.i7_kinds.specs.Actions.{actions_said}
 use Rattle.i7_kinds.specs.Grants.{built_in_bases, first_base, flag_of, flags_from, givens_in, givens_of, kind_given, kinds_given, other_bases, rising_of}
 use Rattle.i7_kinds.specs.Judged.{AreJudged, Refusal, names_nothing, Shows, knowns_said, scope_said}
-use Rattle.i7_kinds.specs.KindClaims.{IsUnknown, flags_by, givens_by, kind_names, numbers_by, parents_of, with_count, with_count_of}
-use Rattle.i7_kinds.specs.PropertiesKept.{PropertiesAreKept}
+use Rattle.i7_kinds.specs.KindClaims.{IsUnknown, declared_by, flags_by, givens_by, kind_names, numbers_by, parents_of, value_kinds_by, with_count, with_count_of}
+use Rattle.i7_kinds.specs.PropertiesKept.{PropertiesAreKept, properties_in}
 use Rattle.i7_kinds.specs.RefusalsShown.{HasProperty}
 use Rattle.i7_kinds.specs.Suits.{can_be, kinds_in}
 use Rattle.i7_kinds.specs.Tales.{Made, entries_of, made_of, refusal_of}
+use Rattle.i7_kinds.specs.ValueKinds.{value_kinds_from}
 use Rattle.i7_kinds.specs.declared.grants.Given.{Given}
 use Rattle.i7_kinds.proofs.Contrary.{IsAmong, any_from, any_to}
 use Rattle.i7_kinds.proofs.Granting.{among_rising, either_ors_behind, flags_counted}
@@ -132,19 +134,30 @@ bases_many claims =
       length-append built_in_either_ors t.0,
     )
 
+-- kinds of value are given to kinds as properties are
+values_given : (parents : List (Option ℕ)) (givens : List Given) (from : ℕ) (claims : List Claim) (names : List (List ℕ))
+    → map (λ (q : ValueKind). q.given) (value_kinds_from parents givens from claims names) ≡ flags_from parents givens from [] names
+values_given parents givens from claims [] = refl
+values_given parents givens from claims (name ∷ names) = ap (λ (gs : List Granted). flag_of parents givens from [] ∷ gs) (values_given parents givens (from + 1) claims names)
+
 -- a property of a number has the kinds that are built in of it and those that sentences give it to
-granted_at : (claims : List Claim) (property : ℕ) (g : Granted) → slice_get (flags_by claims ++ numbers_by claims) property ≡ Some g
+granted_at : (claims : List Claim) (property : ℕ) (g : Granted) → slice_get (properties_in (declared_by claims)) property ≡ Some g
     → g ≡ flag_of (parents_of (kind_names claims) claims) (givens_by claims) property (kinds_in (slice_get built_in_bases property))
 granted_at claims property g e =
     let parents = parents_of (kind_names claims) claims in
     let flags = flags_by claims in
+    let numbers = numbers_by claims in
     ⊎_elim
     (λ here. flag_at parents (givens_by claims) 0 property built_in_bases (names_as sort.EitherOr claims) property g (omega arith) here)
     (λ t.
     let none : slice_get built_in_bases property ≡ None = past built_in_bases property (omega (arith, bases_many claims, t.1)) in
-    flag_at parents (givens_by claims) (length flags) property [] (names_as sort.Number claims) t.0 g t.1 t.2
+    (⊎_elim
+    (λ number. flag_at parents (givens_by claims) (length flags) property [] (names_as sort.Number claims) t.0 g t.1 number)
+    (λ u. flag_at parents (givens_by claims) (length flags + length numbers) property [] (names_as sort.ValueKind claims) u.0 g (omega (arith, t.1, u.1))
+    (ap (λ (gs : List Granted). slice_get gs u.0) (sym (values_given parents (givens_by claims) (length flags + length numbers) claims (names_as sort.ValueKind claims))) ∙ u.2))
+    (in_two numbers (map (λ q. q.given) (value_kinds_by claims)) t.0 g t.2))
     ∙ ap (λ (base : Option (List ℕ)). flag_of parents (givens_by claims) property (kinds_in base)) (sym none))
-    (in_two flags (numbers_by claims) property g e)
+    (in_two flags (numbers ++ map (λ q. q.given) (value_kinds_by claims)) property g e)
 
 -- ---- the kinds that have properties are there
 
@@ -195,6 +208,8 @@ module _ (names : List (List ℕ)) (properties : List (List ℕ)) (most : ℕ) (
   fact_below (CanBe g) given known (inr none) = absurd none
   fact_below (HasNumber g) given known (inl same) = let is = ap (λ (x : Given). x.kind) same in omega (arith, is, known_kind g.kind known)
   fact_below (HasNumber g) given known (inr none) = absurd none
+  fact_below (HasValue g) given known (inl same) = let is = ap (λ (x : Given). x.kind) same in omega (arith, is, known_kind g.kind known)
+  fact_below (HasValue g) given known (inr none) = absurd none
   fact_below _ given known m = absurd m
 
   givens_below : (claims : List Claim) (given : Given) → ((before : List Claim) (c : Claim) (after : List Claim) → claims ≡ before ++ c ∷ after → IsUnknown names c.fact → ⊥)
@@ -240,7 +255,7 @@ properties_kept sentences tale property granted kind means at =
     let m : Made = made_of s knowns claims (stated_by sentences) in
     let t = tale_is (refusal_of s knowns claims (stated_by sentences) named.mentions) (actions_said sentences) (untold claims m (entries_of named.mentions)) tale means in
     let none : (r : Refusal) (line : ℕ) → Shows sentences r line → ⊥ = subst (λ (said : Result Tale Fault). AreJudged sentences said) means (judged sentences) in
-    let there : slice_get (flags_by claims ++ numbers_by claims) property ≡ Some granted = ap (λ (x : Tale). slice_get (x.declared.flags ++ x.declared.numbers) property) t.0 ∙ at in
+    let there : slice_get (properties_in (declared_by claims)) property ≡ Some granted = ap (λ (x : Tale). slice_get (properties_in x.declared) property) t.0 ∙ at in
     let same : is_had s.parents kind granted ≡ can_be s kind property =
     had_same claims kind property granted
     (λ before c after split unknown. none names_nothing c.line (record { before = before; claim = c; after = after; split = split; here = unknown; on = refl }))

@@ -10,12 +10,12 @@ use Rattle.i7_kinds.specs.KindClaims.{start_in, start_of, starts_of}
 use Rattle.i7_kinds.specs.Knowns.{Scope}
 use Rattle.i7_claims.specs.Numbers.{has_name}
 use Rattle.i7_kinds.specs.Tales.{Made, amount_or, begins_with, numbers_from}
-use Rattle.i7_kinds.specs.Values.{Values, given_slot, no_values, told_by, usual_from, usual_of, usual_on, values_by, with_told, with_value_of}
+use Rattle.i7_kinds.specs.Values.{Values, given_slot, no_values, told_by, told_of, usual_from, usual_of, usual_on, values_by, with_told, with_value_of}
 use Rattle.i7_claims.specs.declared.claim.Claim.{Claim}
 use Rattle.i7_claims.specs.declared.claim.Fact.{Fact}
 use Rattle.i7_claims.specs.declared.claim.Fact.TheVariants.{Has, Starts, Usually}
 use Rattle.i7_claims.specs.declared.claim.Value.{Value}
-use Rattle.i7_claims.specs.declared.claim.Value.TheVariants.{Truth, Amount}
+use Rattle.i7_claims.specs.declared.claim.Value.TheVariants.{Truth, Amount, Choice, Never}
 use Rattle.i7_kinds.specs.declared.values.Bearer.{Bearer}
 use Rattle.i7_kinds.specs.declared.values.Bearer.TheVariants.{Objects, Kinds, Variables}
 use Rattle.i7_kinds.specs.declared.values.Slot.{Slot}
@@ -47,11 +47,17 @@ told_ranged : (values : Values) (t : Option Told) → AreRangedValues values →
 told_ranged values None all h o p = all o p
 told_ranged values (Some t) all h o p = slot_ranged t.slot t.value o p (values o p) h (all o p)
 
+of_ranged : (bearer property : ℕ) (value : Value) → IsRangedValue value → IsRangedTold (told_of bearer property value)
+of_ranged bearer property (Truth truth) r = r
+of_ranged bearer property (Amount number) r = r
+of_ranged bearer property (Choice place) r = r
+of_ranged bearer property Never r = tt
+
 fact_ranged : (b : Bearer) (s : Scope) (f : Fact) → IsRangedFact f → IsRangedTold (told_by b s f)
-fact_ranged Objects s (Has h) r = r
+fact_ranged Objects s (Has h) r = of_ranged _ _ h.value r
 fact_ranged Kinds s (Usually u) r =
     elim (cases_Bool (has_name s.kinds u.kind)) [
-      | inl is ↦ rw is r
+      | inl is ↦ rw is (of_ranged _ _ u.value r)
       | inr isnt ↦ rw isnt tt
     ]
 fact_ranged Variables s (Starts v) r = r
@@ -86,6 +92,8 @@ amount_ranged : (value : Option Value) (other : ℤ) → IsRangedAt value → is
 amount_ranged None other h k = k
 amount_ranged (Some (Truth truth)) other h k = k
 amount_ranged (Some (Amount number)) other h k = h
+amount_ranged (Some (Choice place)) other h k = k
+amount_ranged (Some Never) other h k = k
 
 pub numbers_in_range : (m : Made) (o kind n : ℕ) (numbers : List Granted) → AreRangedValues m.values → AreRangedValues m.usuals → list_all is_number (numbers_from m o kind n numbers) ≡ true
 numbers_in_range m o kind n [] values usuals = refl

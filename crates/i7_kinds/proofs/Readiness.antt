@@ -4,12 +4,13 @@ use Rattle.std.specs.Prelude.{None}
 use Rattle.i7_kinds.specs.Bounds.{AreSmallKnowns, AreSmallPlaces, AreWithin, LeadWithin}
 use Rattle.i7_kinds.specs.Demands.{descriptions_of, wrong_kind}
 use Rattle.i7_kinds.specs.Doors.{doors_of}
-use Rattle.i7_kinds.specs.KindClaims.{AreSmallKinds, declared_by, givens_by, kind_names, kind_too_many, parents_of, unknown_kind}
+use Rattle.i7_kinds.specs.KindClaims.{AreSmallKinds, declared_by, flags_by, givens_by, kind_names, kind_too_many, numbers_by, parents_of, unknown_kind}
 use Rattle.i7_kinds.specs.Knowns.{Scope, kind_of, known_at, knowns_of, off_path}
 use Rattle.i7_kinds.specs.Places.{places_by}
 use Rattle.i7_claims.specs.Scans.{earlier}
 use Rattle.i7_claims.specs.Sorts.{name_too_many, names_as, property_names, too_many_as}
 use Rattle.i7_kinds.specs.Grants.{built_in_bases, givens_of}
+use Rattle.i7_kinds.specs.ValueKinds.{AreFewValues}
 use Rattle.i7_kinds.specs.declared.grants.Given.{Given}
 use Rattle.i7_claims.specs.declared.sorts.Sort.TheVariants as sort
 use Rattle.i7_kinds.proofs.Granting.{flags_counted}
@@ -22,8 +23,9 @@ use Rattle.i7_kinds.specs.declared.knowns.Known.{Known}
 use Rattle.i7_claims.specs.declared.statements.NumberedSentence.{NumberedSentence}
 use Rattle.i7_kinds.proofs.Bounds.{counted-source, earlier_none, first_none_both, frame_parts, lead-within, source-within}
 use Rattle.i7_kinds.proofs.Fines.{AreFine, base, kind_few, knowns_counted, knowns_fine}
-use Rattle.i7_kinds.proofs.KindScans.{either_ors_few, kind_names_counted, kinds_small, parents_are_kinds, parents_few}
+use Rattle.i7_kinds.proofs.KindScans.{either_ors_few, kind_names_counted, kinds_small, numbers_few, parents_are_kinds, parents_few}
 use Rattle.i7_kinds.proofs.Placed.{places_small}
+use Rattle.i7_kinds.proofs.Valueless.{kinds_few}
 use Rattle.i7_kinds.proofs.Rooted.{counts_grow, number_there}
 
 pub kinds_many : (claims : List Claim) → 10 ≤ length (parents_of (kind_names claims) claims)
@@ -50,6 +52,25 @@ flags_few claims many =
     let counted = flags_counted (parents_of (kind_names claims) claims) (kinds_many claims) (givens_by claims) 0 built_in_bases (names_as sort.EitherOr claims) in
     omega (arith, counted, either_ors_few claims sorts.0)
 
+-- nor a number property
+sorts_few : (claims : List Claim) → name_too_many claims ≡ None → length (declared_by claims).numbers ≤ 100
+sorts_few claims many =
+    let sorts = earlier_none (too_many_as sort.EitherOr claims) _ many in
+    let numbers = earlier_none (too_many_as sort.Number claims) _ sorts.1 in
+    let counted = flags_counted (parents_of (kind_names claims) claims) (kinds_many claims) (givens_by claims) (length (flags_by claims)) [] (names_as sort.Number claims) in
+    omega (arith, counted, numbers_few claims numbers.0)
+
+-- nor a list of values is too long
+values_few : (claims : List Claim) → name_too_many claims ≡ None → AreFewValues (declared_by claims).values
+values_few claims many =
+    let sorts = earlier_none (too_many_as sort.EitherOr claims) _ many in
+    let numbers = earlier_none (too_many_as sort.Number claims) _ sorts.1 in
+    let variables = earlier_none (too_many_as sort.Variable claims) _ numbers.1 in
+    let books = earlier_none (too_many_as sort.Rulebook claims) _ variables.1 in
+    let scenes = earlier_none (too_many_as sort.Scene claims) _ books.1 in
+    let kinds = earlier_none (too_many_as sort.ValueKind claims) _ scenes.1 in
+    kinds_few (parents_of (kind_names claims) claims) (givens_by claims) (length (flags_by claims) + length (numbers_by claims)) claims (names_as sort.ValueKind claims) kinds.1
+
 -- what no refusal says of the objects
 pub record Ready (s : Scope) (knowns : List Known) (claims : List Claim) (statements : List NumberedSentence) : Type 0 where
   pub within : LeadWithin statements
@@ -57,6 +78,8 @@ pub record Ready (s : Scope) (knowns : List Known) (claims : List Claim) (statem
   pub few_declared : AreSmallKinds (parents_of s.kinds claims)
   pub short : length (parents_of s.kinds claims) ≤ 100
   pub few_flags : length (declared_by claims).flags ≤ 100
+  pub few_numbers : length (declared_by claims).numbers ≤ 100
+  pub few_values : AreFewValues (declared_by claims).values
   pub small_kinds : AreSmallKnowns knowns
   pub small_places : AreSmallPlaces (with_player (places_by s.objects claims) (first_room s.parents knowns))
 
@@ -79,6 +102,8 @@ ready claims keys statements mentions within counted none =
       few_declared = kinds_small claims many.0;
       short = parents_few claims many.0;
       few_flags = flags_few claims many.1;
+      few_numbers = sorts_few claims many.1;
+      few_values = values_few claims many.1;
       small_kinds = kinds_are_small s.parents knowns (kinds_many claims) (parents_few claims many.0) (fine_of claims keys fine.unknown off.0);
       small_places = places_small keys claims s.parents knowns few (omega (arith, known)) (omega (arith, known, fine.few));
     }

@@ -1,5 +1,5 @@
 -- Sources that assert the same, each accepted, claim the same: what is claimed rests on no line and no order.
-use Rattle.std.proofs.Common.{◌≡◌, ℕ, ℤ, Bool, true, false, cond, List, [], ◌∷◌, ◌++◌, map, Option, refl, sym, ◌∙◌, subst, inl, inr, ◌⊎◌, ⊎_elim}
+use Rattle.std.proofs.Common.{◌+◌, ◌≡◌, ℕ, ℤ, Bool, true, false, cond, List, [], ◌∷◌, ◌++◌, map, Option, refl, sym, ◌∙◌, subst, inl, inr, ◌⊎◌, ⊎_elim}
 use Rattle.std.specs.Prelude.{Some, None, flat_map}
 use Rattle.world_meaning.specs.declared.place.Rel.{Rel}
 use Rattle.world_meaning.specs.declared.place.Rel.TheVariants.{In, On, Carried, Worn, Part}
@@ -10,13 +10,14 @@ use Rattle.i7_sentences.specs.declared.sentence.Being.{Being}
 use Rattle.i7_sentences.specs.declared.sentence.Holder.{Holder}
 use Rattle.i7_sentences.specs.declared.sentence.Sentence.{Sentence}
 use Rattle.i7_claims.specs.Beings.{names_said}
-use Rattle.i7_claims.specs.Claims.{being_claims, claims_of, claims_said, declares_said, demands, demands_said, has_all, has_quality, holder_demands, kind_said, known_by}
+use Rattle.i7_claims.specs.Claims.{being_claims, claims_of, claims_said, declares_said, demands, demands_said, has_all, has_quality, holder_demands, kind_said, known_by, choice_said, has_choice, usually_choice, values_from}
 use Rattle.i7_claims.specs.Claims.{named, number_claim, placed, placings_said, qualities_said, start_claim, usual_claims, usual_kind, usual_number, usual_quality, what_claims, worn_claims}
 use Rattle.i7_claims.specs.NameScans.{Standings, built_in_standings, name_twice}
 use Rattle.i7_claims.specs.Standings.{is_number_name, is_variable_name}
 use Rattle.i7_claims.specs.Statements.{key_of}
 use Rattle.i7_claims.specs.Wording.{usual_said, what_said}
 use Rattle.i7_claims.specs.declared.claim.Claim.{Claim}
+use Rattle.i7_claims.specs.declared.claim.Value.{Value}
 use Rattle.i7_claims.specs.declared.claim.Fact.{Fact}
 use Rattle.i7_claims.specs.declared.claim.Standing.TheVariants as stands
 use Rattle.i7_claims.specs.declared.wording.What.{What}
@@ -111,6 +112,19 @@ same_usual_number known property kind number m n = same_if (is_number_name (know
 same_start : (known : Standings) (variable : Name) (number : ℤ) (m n : ℕ) → (start_claim known variable number m).fact ≡ (start_claim known variable number n).fact
 same_start known variable number m n = same_if (is_variable_name (known (key_of variable.text))) _ _ _ _ refl refl
 
+same_values : (kind : List ℕ) (m n place : ℕ) (values : List Name) → SameFacts (values_from kind m place values) (values_from kind n place values)
+same_values kind m n place [] = tt
+same_values kind m n place (value ∷ values) = (refl, same_values kind m n (1 + place) values)
+
+same_choice : (property object value : Name) (m n : ℕ) (choice : Option Value) → (has_choice property object value m choice).fact ≡ (has_choice property object value n choice).fact
+same_choice property object value m n None = refl
+same_choice property object value m n (Some choice) = refl
+
+same_usual_choice : (kind : List ℕ) (property value : Name) (m n : ℕ) (choice : Option Value)
+    → (usually_choice kind property value m choice).fact ≡ (usually_choice kind property value n choice).fact
+same_usual_choice kind property value m n None = refl
+same_usual_choice kind property value m n (Some choice) = refl
+
 same_declared : (said : Assertion) (m n : ℕ) → SameFacts (declares_said said m) (declares_said said n)
 same_declared (asserts.Rulebook name) m n = (refl, tt)
 same_declared (asserts.Scene name recurs) m n = (refl, tt)
@@ -119,6 +133,9 @@ same_declared (asserts.EitherOr kind first None) m n = (refl, (refl, tt))
 same_declared (asserts.EitherOr kind first (Some second)) m n = (refl, (refl, (refl, tt)))
 same_declared (asserts.NumberProperty kind property) m n = (refl, (refl, tt))
 same_declared (asserts.Variable name) m n = (refl, tt)
+same_declared (asserts.ValueKind name) m n = (refl, tt)
+same_declared (asserts.Values kind values) m n = (refl, same_values (key_of kind.text) m n 0 values)
+same_declared (asserts.HasValue kind property) m n = (refl, tt)
 same_declared _ m n = tt
 
 same_said : (known : Standings) (said : Assertion) (m n : ℕ) → SameFacts (claims_said known said m) (claims_said known said n)
@@ -133,6 +150,8 @@ same_said known (asserts.Usually kind adjectives) m n = same_usual (usual_kind k
 same_said known (asserts.NumberOf property object number) m n = (refl, (same_number known property object number m n, tt))
 same_said known (asserts.UsuallyNumber property kind number) m n = (same_usual_number known property kind number m n, tt)
 same_said known (asserts.VariableIs variable number) m n = (same_start known variable number m n, tt)
+same_said known (asserts.ValueOf property object value) m n = (refl, (same_choice property object value m n (choice_said known property value), tt))
+same_said known (asserts.UsuallyValue property kind value) m n = (same_usual_choice (usual_kind known kind) property value m n (choice_said known property value), tt)
 same_said known said m n = same_declared said m n
 
 -- ---- what is claimed by what is said

@@ -8,7 +8,7 @@ use Rattle.i7_claims.specs.Scans.{IsLowest, ShownBy}
 use Rattle.i7_kinds.specs.Values.{IsContrary, IsOther, Values, is_contrary, is_other, is_same, is_same_number, no_values, shows_contrary, slot_eq, told_by, value_in, value_twice, values_by, with_slot, with_value_of}
 use Rattle.i7_claims.specs.declared.claim.Claim.{Claim}
 use Rattle.i7_claims.specs.declared.claim.Value.{Value}
-use Rattle.i7_claims.specs.declared.claim.Value.TheVariants.{Truth, Amount}
+use Rattle.i7_claims.specs.declared.claim.Value.TheVariants.{Truth, Amount, Choice, Never}
 use Rattle.i7_kinds.specs.declared.values.Bearer.{Bearer}
 use Rattle.i7_kinds.specs.declared.values.Told.{Told}
 use Rattle.i7_kinds.specs.declared.values.Slot.{Slot}
@@ -49,11 +49,19 @@ same_values (Truth false) (Truth false) h = refl
 same_values (Amount a) (Amount b) h = ap Amount (same_numbers a b h)
 same_values (Truth a) (Amount b) h = absurd cc
 same_values (Amount a) (Truth b) h = absurd cc
+same_values (Choice a) (Choice b) h = ap Choice (eqb-true a b h)
+same_values Never Never h = refl
+same_values (Choice a) _ h = absurd cc
+same_values Never _ h = absurd cc
+same_values (Truth a) _ h = absurd cc
+same_values (Amount a) _ h = absurd cc
 
 same_itself : (a : Value) → is_same a a ≡ true
 same_itself (Truth true) = refl
 same_itself (Truth false) = refl
 same_itself (Amount a) = same_number_itself a
+same_itself (Choice a) = eq-eqb a a refl
+same_itself Never = refl
 
 other_not_same : (first value : Value) → first ≢ value → not (is_same first value) ≡ true
 other_not_same first value h =

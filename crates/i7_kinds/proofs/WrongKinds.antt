@@ -17,6 +17,8 @@ use Rattle.i7_claims.proofs.NameScans.{never}
 use Rattle.i7_claims.specs.Numbers.{number_in}
 use Rattle.i7_claims.specs.Scans.{IsLowest, ShownBy}
 use Rattle.i7_claims.specs.declared.claim.Claim.{Claim}
+use Rattle.i7_claims.specs.declared.claim.Value.{Value}
+use Rattle.i7_claims.specs.declared.claim.Value.TheVariants.{Truth, Amount, Choice, Never}
 use Rattle.i7_claims.specs.declared.claim.Fact.{Fact}
 use Rattle.i7_claims.specs.declared.claim.Fact.TheVariants.{Has, Placed, Usually}
 use Rattle.i7_claims.specs.declared.statements.Numbered.{Numbered}
@@ -28,7 +30,7 @@ use Rattle.i7_kinds.specs.Grants.{built_in_bases}
 use Rattle.i7_kinds.specs.Knowns.{Scope, is_parted_at, kind_of, kinds_known, known_at}
 use Rattle.i7_kinds.specs.Places.{place_of, thing_of}
 use Rattle.i7_kinds.specs.RefusalsShown.{EndsAbout, HasProperty, Holds, IsDoor, IsLacking, IsNoRoom, IsRoom, IsUnsuited, IsWrong, Suits}
-use Rattle.i7_kinds.specs.Suits.{can_be, is_unsuited, kinds_in, same_knowns, shows_unsuited, suits, unsuited}
+use Rattle.i7_kinds.specs.Suits.{can_be, is_never_said, is_unsuited, kinds_in, same_knowns, shows_unsuited, suits, unsuited}
 use Rattle.i7_kinds.specs.declared.knowns.Known.{Known}
 use Rattle.i7_kinds.proofs.FirstShown.{first_passed, first_same, found_of_first, passed_first}
 use Rattle.i7_kinds.proofs.KindsDecided.{about_last, apart_decides, ends_from, ends_to, of_decides, then_about}
@@ -163,6 +165,12 @@ lacking_decides s knowns o property =
     (Decides-and (not (is_parted_at knowns o)) (not (can_be s (kind_of (known_at knowns o)) property)) (Decides-not (is_parted_at knowns o) (apart_decides knowns o))
     (Decides-not (can_be s (kind_of (known_at knowns o)) property) (property_decides s (kind_of (known_at knowns o)) property)))
 
+never_decides : (value : Value) → Decides (is_never_said value) (value ≡ Never)
+never_decides Never = (λ h. refl, λ h. refl)
+never_decides (Truth truth) = never (λ h. absurd cc)
+never_decides (Amount number) = never (λ h. absurd cc)
+never_decides (Choice place) = never (λ h. absurd cc)
+
 unsuited_decides : (s : Scope) (knowns : List Known) (f : Fact) → Decides (is_unsuited s knowns f) (IsUnsuited s knowns f)
 unsuited_decides s knowns (Placed p) =
     let thing = thing_of s.objects p in
@@ -170,9 +178,11 @@ unsuited_decides s knowns (Placed p) =
     Decides-and _ _
     (neither (is_parted_at knowns thing) (is_parted_at knowns place.holder) (apart_decides knowns thing) (apart_decides knowns place.holder))
     (Decides-not (suits (kinds_known s.parents knowns) thing place) (suits_decide s.parents knowns thing place))
-unsuited_decides s knowns (Has h) = lacking_decides s knowns (number_in s.objects h.object) (number_in s.properties h.property)
-unsuited_decides s knowns (Usually u) = Decides-not (can_be s (number_in s.kinds u.kind) (number_in s.properties u.property))
-    (property_decides s (number_in s.kinds u.kind) (number_in s.properties u.property))
+unsuited_decides s knowns (Has h) =
+    Decides-or _ _ (never_decides h.value) (lacking_decides s knowns (number_in s.objects h.object) (number_in s.properties h.property))
+unsuited_decides s knowns (Usually u) =
+    Decides-or _ _ (never_decides u.value)
+    (Decides-not (can_be s (number_in s.kinds u.kind) (number_in s.properties u.property)) (property_decides s (number_in s.kinds u.kind) (number_in s.properties u.property)))
 unsuited_decides s knowns _ = never (λ h. h)
 
 same_fold : (claims : List Claim) (knowns : List Known) → fold same_knowns knowns claims ≡ knowns

@@ -6,7 +6,7 @@ use Rattle.world_meaning.specs.declared.kinds.TheConstants.{PROPERTIES}
 use Rattle.i7_claims.specs.Statements.{number_in}
 use Rattle.i7_claims.specs.declared.claim.Claim.{Claim}
 use Rattle.i7_claims.specs.declared.claim.Fact.{Fact}
-use Rattle.i7_claims.specs.declared.claim.Fact.TheVariants.{CanBe, HasNumber}
+use Rattle.i7_claims.specs.declared.claim.Fact.TheVariants.{CanBe, HasNumber, HasValue}
 use Rattle.i7_kinds.specs.declared.grants.Given.{Given}
 
 -- of each built-in property the kinds that have it
@@ -25,6 +25,7 @@ other_bases (base ∷ bases) = bases
 abbrev pub givens_in : List (List ℕ) → List (List ℕ) → Fact → List Given
 givens_in properties kinds (CanBe g) = record { property = number_in properties g.property; kind = number_in kinds g.kind } ∷ []
 givens_in properties kinds (HasNumber g) = record { property = number_in properties g.property; kind = number_in kinds g.kind } ∷ []
+givens_in properties kinds (HasValue g) = record { property = number_in properties g.property; kind = number_in kinds g.kind } ∷ []
 givens_in properties kinds _ = []
 
 abbrev pub givens_of : List (List ℕ) → List (List ℕ) → List Claim → List Given

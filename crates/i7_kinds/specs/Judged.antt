@@ -7,8 +7,8 @@ use Rattle.world_meaning.specs.declared.tale.Tale.{Tale}
 use Rattle.i7_sentences.specs.declared.sentence.Sentence.{Sentence}
 use Rattle.i7_claims.specs.Claims.{claims_of}
 use Rattle.i7_claims.specs.Scans.{ShownBy}
-use Rattle.i7_claims.specs.Sorts.{IsTooMany}
-use Rattle.i7_claims.specs.Standings.{IsBookTwice, IsTwice}
+use Rattle.i7_claims.specs.Sorts.{IsListTooLong, IsTooMany}
+use Rattle.i7_claims.specs.Standings.{IsBookTwice, IsListedTwice, IsTwice}
 use Rattle.i7_claims.specs.Statements.{NameAt, named_by, stated_by}
 use Rattle.i7_claims.specs.declared.claim.Claim.{Claim}
 use Rattle.i7_claims.specs.declared.sorts.Sort.TheVariants as sort
@@ -23,6 +23,7 @@ use Rattle.i7_kinds.specs.LongNames.{IsLonger}
 use Rattle.i7_kinds.specs.Places.{IsHolderCycle, IsSecond}
 use Rattle.i7_kinds.specs.RefusalsShown.{DescribesAtLength, HasNoRoom, IsDescribedAgain, IsLedElsewhere, IsLongName, IsOffPath, IsOneTooMany, IsUnsuited, IsWrong}
 use Rattle.i7_kinds.specs.Tales.{scope_of}
+use Rattle.i7_kinds.specs.ValueKinds.{IsUnlisted}
 use Rattle.i7_kinds.specs.Values.{IsContrary, told_by, values_by}
 use Rattle.i7_kinds.specs.declared.knowns.Known.{Known}
 use Rattle.i7_kinds.specs.declared.values.Bearer.{Bearer}
@@ -64,6 +65,7 @@ pub data Refusal : Type 0 where
   stands_twice : Refusal
   one_too_many : Refusal
   roomless : Refusal
+  valueless : Refusal
   too_long : Refusal
 
 abbrev pub turn_of : Refusal → ℕ
@@ -74,7 +76,8 @@ turn_of wrong_kind = 3
 turn_of stands_twice = 4
 turn_of one_too_many = 5
 turn_of roomless = 6
-turn_of too_long = 7
+turn_of valueless = 7
+turn_of too_long = 8
 
 abbrev pub code_of : Refusal → FaultCode
 code_of said_twice = fault.Twice
@@ -84,21 +87,23 @@ code_of wrong_kind = fault.WrongKind
 code_of stands_twice = fault.TwoPlaces
 code_of one_too_many = fault.TooMany
 code_of roomless = fault.NoRoom
+code_of valueless = fault.NoValues
 code_of too_long = fault.TooMany
 
--- the sentences show it at this line: a name that stands for two things, a rulebook's that is another's, an object described
+-- the sentences show it at this line: a name that stands for two things, a rulebook's that is another's, a second list of values, an object described
 -- otherwise than before, another value of an object's property, of a kind's usual one or of a variable; a kind that isn't
 -- there, or words that name nothing; a cycle of kinds or of holders; demands on no one path, and what the kinds don't allow;
 -- an exit led elsewhere, a second place of an object, a door's rooms told again; an object, a kind or another name that is
--- one too many; no room, at line 1; an object's name, a description or any name that is too long
+-- one too many, or a list of values that is too long; no room, at line 1; a kind of value without values; an object's name, a description or any name that is too long
 abbrev pub Shows : List Sentence → Refusal → ℕ → Type 0
 Shows sentences said_twice line =
     ClaimShows (λ before c. IsTwice before c.fact) sentences line
     ⊎ (ClaimShows (λ before c. IsBookTwice before c.fact) sentences line
+    ⊎ (ClaimShows (λ before c. IsListedTwice before c.fact) sentences line
     ⊎ (StatementShows (IsDescribedAgain (parents_said sentences) (knowns_said sentences)) sentences line
     ⊎ (ShowsContrary Objects sentences line
     ⊎ (ShowsContrary Kinds sentences line
-    ⊎ ShowsContrary Variables sentences line))))
+    ⊎ ShowsContrary Variables sentences line)))))
 Shows sentences names_nothing line = ClaimShows (λ before c. IsUnknown (scope_said sentences).kinds c.fact) sentences line
 Shows sentences closes_cycle line =
     ClaimShows (λ before c. IsCycle (scope_said sentences).kinds before c.fact) sentences line
@@ -118,8 +123,11 @@ Shows sentences one_too_many line =
     ⊎ (ClaimShows (λ before c. IsTooMany sort.Number before c.fact) sentences line
     ⊎ (ClaimShows (λ before c. IsTooMany sort.Variable before c.fact) sentences line
     ⊎ (ClaimShows (λ before c. IsTooMany sort.Rulebook before c.fact) sentences line
-    ⊎ ClaimShows (λ before c. IsTooMany sort.Scene before c.fact) sentences line)))))
+    ⊎ (ClaimShows (λ before c. IsTooMany sort.Scene before c.fact) sentences line
+    ⊎ (ClaimShows (λ before c. IsTooMany sort.ValueKind before c.fact) sentences line
+    ⊎ ClaimShows (λ before c. IsListTooLong c.fact) sentences line)))))))
 Shows sentences roomless line = HasNoRoom (parents_said sentences) (knowns_said sentences) × (line ≡ 1)
+Shows sentences valueless line = ClaimShows (λ before c. IsUnlisted (claims_of sentences) c.fact) sentences line
 Shows sentences too_long line =
     MentionShows (λ before at. IsLongName at.name.text) sentences line
     ⊎ (StatementShows (DescribesAtLength (parents_said sentences) (knowns_said sentences)) sentences line

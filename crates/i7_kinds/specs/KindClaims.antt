@@ -5,6 +5,8 @@ use Rattle.std.specs.List.{list_any}
 use Rattle.world_meaning.specs.Kinds.{Under, built_in_parents, is_under}
 use Rattle.world_meaning.specs.declared.declared.Declared.{Declared}
 use Rattle.world_meaning.specs.declared.declared.Granted.{Granted}
+use Rattle.world_meaning.specs.declared.declared.ValueKind.{ValueKind}
+use Rattle.i7_kinds.specs.ValueKinds.{value_kinds_from}
 use Rattle.i7_kinds.specs.Grants.{built_in_bases, flags_from, givens_of}
 use Rattle.i7_kinds.specs.declared.grants.Given.{Given}
 pub use Rattle.i7_claims.specs.KindNames.{kind_names, with_kind, with_kind_of}
@@ -15,7 +17,7 @@ use Rattle.i7_claims.specs.Standings.{has_name}
 use Rattle.i7_claims.specs.Statements.{number_in}
 use Rattle.i7_claims.specs.declared.claim.Claim.{Claim}
 use Rattle.i7_claims.specs.declared.claim.Fact.{Fact}
-use Rattle.i7_claims.specs.declared.claim.Fact.TheVariants.{Stands, Lies, CanBe, HasNumber, Demands, Usually, Starts, Unread}
+use Rattle.i7_claims.specs.declared.claim.Fact.TheVariants.{Stands, Lies, CanBe, HasNumber, HasValue, Demands, Usually, Starts, Unread}
 use Rattle.i7_claims.specs.declared.claim.Standing.{Standing}
 use Rattle.i7_claims.specs.declared.claim.Standing.TheVariants as stands
 
@@ -84,6 +86,11 @@ flags_by claims = flags_from (parents_of (kind_names claims) claims) (givens_by 
 abbrev pub numbers_by : List Claim → List Granted
 numbers_by claims = flags_from (parents_of (kind_names claims) claims) (givens_by claims) (length (flags_by claims)) [] (names_as sort.Number claims)
 
+-- the kinds of value, whose numbers go on behind those
+abbrev pub value_kinds_by : List Claim → List ValueKind
+value_kinds_by claims =
+    value_kinds_from (parents_of (kind_names claims) claims) (givens_by claims) (length (flags_by claims) + length (numbers_by claims)) claims (names_as sort.ValueKind claims)
+
 -- what a source declares besides objects; nothing is claimed of its actions
 abbrev pub declared_by : List Claim → Declared
 declared_by claims = record {
@@ -94,7 +101,7 @@ declared_by claims = record {
   scenes = scenes_of claims (names_as sort.Scene claims);
   rulebooks = length (names_as sort.Rulebook claims);
   actions = [];
-  values = [];
+  values = value_kinds_by claims;
 }
 
 -- ---- refusals
@@ -104,6 +111,7 @@ abbrev pub IsUnknown : List (List ℕ) → Fact → Type 0
 IsUnknown names (Lies l) = has_name names l.parent ≡ false
 IsUnknown names (CanBe g) = has_name names g.kind ≡ false
 IsUnknown names (HasNumber g) = has_name names g.kind ≡ false
+IsUnknown names (HasValue g) = has_name names g.kind ≡ false
 IsUnknown names (Demands d) = has_name names d.kind ≡ false
 IsUnknown names (Usually u) = has_name names u.kind ≡ false
 IsUnknown names (Unread words) = ⊤
@@ -125,6 +133,7 @@ abbrev pub is_unknown : List (List ℕ) → Fact → Bool
 is_unknown names (Lies l) = not (has_name names l.parent)
 is_unknown names (CanBe g) = not (has_name names g.kind)
 is_unknown names (HasNumber g) = not (has_name names g.kind)
+is_unknown names (HasValue g) = not (has_name names g.kind)
 is_unknown names (Demands d) = not (has_name names d.kind)
 is_unknown names (Usually u) = not (has_name names u.kind)
 is_unknown names (Unread words) = true

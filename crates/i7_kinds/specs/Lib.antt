@@ -19,6 +19,7 @@ pub mod StatedWays
 pub mod Suits
 pub mod TaleExits
 pub mod Tales
+pub mod ValueKinds
 pub mod Values
 pub mod Views
 pub mod Written

@@ -10,6 +10,7 @@ use Rattle.i7_claims.specs.Numbers.{has_name, number_in}
 use Rattle.i7_claims.specs.Statements.{NameAt}
 use Rattle.i7_claims.specs.declared.claim.Claim.{Claim}
 use Rattle.i7_claims.specs.declared.claim.Fact.{Fact}
+use Rattle.i7_claims.specs.declared.claim.Value.TheVariants.{Never}
 use Rattle.i7_claims.specs.declared.claim.Fact.TheVariants.{Demands, Has, Placed, RoomUnlessDoor, Usually}
 use Rattle.i7_claims.specs.declared.statements.Numbered.{Numbered}
 use Rattle.i7_claims.specs.declared.statements.Numbered.TheVariants as numbered
@@ -130,13 +131,14 @@ pub record IsLacking (s : Scope) (knowns : List Known) (o property : ℕ) : Type
   pub apart : IsApart knowns o → ⊥
   pub lacks : HasProperty s (kind_of (known_at knowns o)) property → ⊥
 
--- a fact that the kinds don't allow, where they are known: a place, a property of an object, or what is usual of a kind
+-- a fact that the kinds don't allow, where they are known: a place, a property of an object, or what is usual of a kind; or a value
+-- that is none of the property's
 abbrev pub IsUnsuited : Scope → List Known → Fact → Type 0
 IsUnsuited s knowns (Placed p) =
     ((IsApart knowns (thing_of s.objects p) → ⊥) × (IsApart knowns (place_of s.objects p).holder → ⊥))
     × (Suits s.parents knowns (thing_of s.objects p) (place_of s.objects p) → ⊥)
-IsUnsuited s knowns (Has h) = IsLacking s knowns (number_in s.objects h.object) (number_in s.properties h.property)
-IsUnsuited s knowns (Usually u) = HasProperty s (number_in s.kinds u.kind) (number_in s.properties u.property) → ⊥
+IsUnsuited s knowns (Has h) = (h.value ≡ Never) ⊎ IsLacking s knowns (number_in s.objects h.object) (number_in s.properties h.property)
+IsUnsuited s knowns (Usually u) = (u.value ≡ Never) ⊎ (HasProperty s (number_in s.kinds u.kind) (number_in s.properties u.property) → ⊥)
 IsUnsuited s knowns _ = ⊥
 
 -- ---- C12: limits, and C13: a source without a room

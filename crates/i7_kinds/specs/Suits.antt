@@ -1,5 +1,5 @@
 -- Which places the kinds of objects allow, and where the player begins.
-use Rattle.std.specs.Prelude.{ℕ, ◌+◌, Bool, false, not, ◌&&◌, ◌||◌, ◌==◌, List, [], ◌∷◌, drop, slice_get, Option, Some, None, if◌then◌else◌}
+use Rattle.std.specs.Prelude.{ℕ, ◌+◌, Bool, true, false, not, ◌&&◌, ◌||◌, ◌==◌, List, [], ◌∷◌, drop, slice_get, Option, Some, None, if◌then◌else◌}
 use Rattle.std.specs.List.{list_any}
 use Rattle.world_meaning.specs.Kinds.{is_under, room_kind}
 use Rattle.world_meaning.specs.Placing.{Kinds, can_be_held, can_hold, keeps_player}
@@ -14,6 +14,8 @@ use Rattle.i7_claims.specs.declared.claim.Claim.{Claim}
 use Rattle.i7_claims.specs.declared.claim.Fact.{Fact}
 use Rattle.i7_claims.specs.declared.claim.Fact.TheVariants.{Has, Placed, Usually}
 use Rattle.i7_claims.specs.declared.claim.Having.{Having}
+use Rattle.i7_claims.specs.declared.claim.Value.{Value}
+use Rattle.i7_claims.specs.declared.claim.Value.TheVariants.{Never}
 use Rattle.i7_claims.specs.declared.claim.Usual.{Usual}
 use Rattle.i7_kinds.specs.declared.knowns.Known.{Known}
 
@@ -31,16 +33,25 @@ can_be s kind property =
     list_any (λ base. is_under s.parents kind base) (kinds_in (slice_get built_in_bases property))
     || list_any (λ given. (given.property == property) && is_under s.parents kind given.kind) s.givens
 
--- the kind of an object, where it is known, lacks a property
+-- what is said of a kind of value is none of its values
+abbrev pub is_never_said : Value → Bool
+is_never_said Never = true
+is_never_said _ = false
+
+-- the kind of an object, where it is known, lacks a property, or the value is none of the property's
 abbrev pub is_lacking : Scope → List Known → Having → Bool
 is_lacking s knowns h =
-    not (is_parted_at knowns (number_in s.objects h.object)) && not (can_be s (kind_of (known_at knowns (number_in s.objects h.object))) (number_in s.properties h.property))
+    is_never_said h.value || not (is_parted_at knowns (number_in s.objects h.object)) && not (can_be s (kind_of (known_at knowns (number_in s.objects h.object))) (number_in s.properties h.property))
 
 -- a kind lacks the property of which something is usual
-abbrev pub is_never : Scope → Usual → Bool
-is_never s u = not (can_be s (number_in s.kinds u.kind) (number_in s.properties u.property))
+abbrev pub lacks : Scope → Usual → Bool
+lacks s u = not (can_be s (number_in s.kinds u.kind) (number_in s.properties u.property))
 
--- C8: a place that the kinds don't allow, or a property that they lack, where they are known
+-- or the value is none of the property's
+abbrev pub is_never : Scope → Usual → Bool
+is_never s u = is_never_said u.value || lacks s u
+
+-- C8: a place that the kinds don't allow, a property that they lack, where they are known, or a value that is none of the property's
 abbrev pub is_unsuited : Scope → List Known → Fact → Bool
 is_unsuited s knowns (Placed p) =
     not (is_parted_at knowns (thing_of s.objects p) || is_parted_at knowns (place_of s.objects p).holder)

@@ -9,12 +9,13 @@ use Rattle.world_meaning.specs.declared.exits.Exits.{Exits}
 use Rattle.world_meaning.specs.declared.exits.Way.{Way}
 use Rattle.world_meaning.specs.declared.fault.Fault.{Fault}
 use Rattle.world_meaning.specs.declared.fault.FaultCode.{FaultCode}
-use Rattle.world_meaning.specs.declared.fault.FaultCode.TheVariants.{Twice, UnknownName, Cycle, WrongKind, TwoPlaces, TooMany, NoRoom}
+use Rattle.world_meaning.specs.declared.fault.FaultCode.TheVariants.{Twice, UnknownName, Cycle, WrongKind, TwoPlaces, TooMany, NoRoom, NoValues}
 use Rattle.world_meaning.specs.declared.tale.Object.{Object}
 use Rattle.world_meaning.specs.declared.tale.Tale.{Tale}
 use Rattle.world_meaning.specs.Declarations.{is_had}
 use Rattle.world_meaning.specs.Kinds.{is_under, is_under_one, room_kind, thing_kind}
 use Rattle.world_meaning.specs.declared.declared.Granted.{Granted}
+use Rattle.world_meaning.specs.declared.declared.ValueKind.{ValueKind}
 use Rattle.world_meaning.specs.Properties.{described}
 use Rattle.world_meaning.specs.declared.kinds.TheConstants.{PROPERTIES}
 use Rattle.world_meaning.specs.Standing.{place_at}
@@ -32,11 +33,12 @@ use Rattle.i7_kinds.specs.KindClaims.{declared_by, kind_cycle, kind_names, kind_
 use Rattle.i7_kinds.specs.Knowns.{Scope, kinds_of, knowns_of, off_path}
 use Rattle.i7_kinds.specs.LongNames.{longer_name}
 use Rattle.i7_kinds.specs.Places.{Places, holder_cycle, places_by, second_place}
+use Rattle.i7_kinds.specs.ValueKinds.{choice_or, unlisted}
 use Rattle.i7_kinds.specs.Values.{Values, usual_of, value_twice, values_by}
 use Rattle.i7_kinds.specs.declared.values.Bearer.TheVariants.{Objects, Kinds, Variables}
 use Rattle.i7_kinds.specs.Suits.{first_room, unsuited, with_player}
 use Rattle.i7_kinds.specs.declared.knowns.Known.{Known}
-use Rattle.i7_claims.specs.NameScans.{book_twice, name_twice}
+use Rattle.i7_claims.specs.NameScans.{book_twice, list_twice, name_twice}
 use Rattle.i7_claims.specs.declared.claim.Claim.{Claim}
 use Rattle.i7_claims.specs.declared.claim.Value.{Value}
 use Rattle.i7_claims.specs.declared.claim.Value.TheVariants.{Truth, Amount}
@@ -104,6 +106,7 @@ pub record Made : Type 0 where
   pub places : Places
   pub flags : List Granted
   pub numbers : List Granted
+  pub value_kinds : List ValueKind
   pub values : Values
   pub usuals : Values
   pub descriptions : List Description
@@ -156,6 +159,17 @@ numbers_from m o kind n [] = []
 numbers_from m o kind n (number ∷ numbers) =
     if is_had m.parents kind number then begins_with m o kind n ∷ numbers_from m o kind (n + 1) numbers else numbers_from m o kind (n + 1) numbers
 
+-- the kind of value with number n as a property, which has so many values: object o begins with what a sentence says, else with
+-- what is usual, and else with the first
+abbrev pub chosen : Made → ℕ → ℕ → ℕ → ℕ → ℕ
+chosen m o kind n count = choice_or count (m.values o n) (choice_or count (usual_of m.parents m.usuals kind n) 0)
+
+-- what those of these kinds of value, whose numbers as properties go on from n, begin with that an object of a kind has
+abbrev pub choices_from : Made → ℕ → ℕ → ℕ → List ValueKind → List ℕ
+choices_from m o kind n [] = []
+choices_from m o kind n (q ∷ kinds) =
+    if is_had m.parents kind q.given then chosen m o kind n (length q.names) ∷ choices_from m o kind (n + 1) kinds else choices_from m o kind (n + 1) kinds
+
 -- those of these properties, counted from n, that an object of a kind has and begins with; the first are true of these
 -- kinds by default
 abbrev pub properties_from : Made → ℕ → ℕ → ℕ → List (List ℕ) → List Granted → List ℕ
@@ -179,7 +193,7 @@ object_as m kind o e = record {
   exits = exits_by m.parents m.statements kind o;
   properties = properties_from m o kind 0 built_in_truths m.flags;
   numbers = numbers_from m o kind (length m.flags) m.numbers;
-  values = [];
+  values = choices_from m o kind (length m.flags + length m.numbers) m.value_kinds;
 }
 
 abbrev pub object_of : Made → ℕ → Entry → Object
@@ -217,17 +231,20 @@ abbrev pub scope_of : List Claim → List (List ℕ) → Scope
 scope_of claims keys = scope_with (kind_names claims) (parents_of (kind_names claims) claims) claims keys
 
 -- what sentences may not say together, by the lowest lines: C9 of a name that stands for two things, of a rulebook's that
--- is another's, of a second description and of another value of a property or a variable; C7 of a kind that isn't
+-- is another's, of a second list of values, of a second description and of another value of a property or a variable; C7 of a kind that isn't
 -- there and of words that name nothing; C11 of a cycle of kinds or of holders; C8 of demands off one path and of what the kinds don't allow; C10 of an exit's or an object's second place, and of a door
--- whose rooms are told again; C12 of a name that is one too many
+-- whose rooms are told again; C12 of a name that is one too many and of a list of
+-- values that is too long; C16 of a kind of value without values
 abbrev pub faults_of : Scope → List Known → List Claim → List NumberedSentence → Faults
 faults_of s knowns claims statements = record {
-  twice = earlier (name_twice claims) (earlier (book_twice claims) (earlier (second_description (descriptions_of s.parents knowns statements)) (earlier (value_twice Objects s claims) (earlier (value_twice Kinds s claims) (value_twice Variables s claims)))));
+  twice = earlier (name_twice claims) (earlier (book_twice claims) (earlier (list_twice claims)
+      (earlier (second_description (descriptions_of s.parents knowns statements)) (earlier (value_twice Objects s claims) (earlier (value_twice Kinds s claims) (value_twice Variables s claims))))));
   unknown = unknown_kind s.kinds claims;
   cycle = earlier (kind_cycle s.kinds claims) (holder_cycle s.objects claims);
   wrong = earlier (off_path s claims) (earlier (unsuited s knowns claims) (wrong_kind s.parents knowns statements));
   second = earlier (second_target statements) (earlier (second_place s.objects claims) (door_twice claims));
   too_many = earlier (kind_too_many claims) (name_too_many claims);
+  unlisted = unlisted claims;
 }
 
 -- each code is looked for in all sentences before the next
@@ -239,7 +256,8 @@ frame_refusal faults mentions room =
     (first_of (refusal_at WrongKind faults.wrong)
     (first_of (refusal_at TwoPlaces faults.second)
     (first_of (refusal_at TooMany (earlier (object_too_many mentions) faults.too_many))
-    (refusal_at NoRoom (no_room room)))))))
+    (first_of (refusal_at NoRoom (no_room room))
+    (refusal_at NoValues faults.unlisted)))))))
 
 -- what is too long
 unfoldable pub limit_refusal : List Claim → List Description → List NameAt → Option Fault
@@ -262,6 +280,7 @@ made_of s knowns claims statements = record {
   places = with_player (places_by s.objects claims) (first_room s.parents knowns);
   flags = (declared_by claims).flags;
   numbers = (declared_by claims).numbers;
+  value_kinds = (declared_by claims).values;
   values = values_by Objects s claims;
   usuals = values_by Kinds s claims;
   descriptions = descriptions_of s.parents knowns statements;

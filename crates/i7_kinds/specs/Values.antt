@@ -1,6 +1,6 @@
 -- What sentences say of the properties of objects, or usually of those of kinds, and of variables, by their numbers: the
 -- first that is said of each stands, and another value is a fault.
-use Rattle.std.specs.Prelude.{◌≡◌, ◌≢◌, ℕ, ℤ, pos, negsuc, Bool, false, not, ◌&&◌, ◌==◌, List, [], ◌∷◌, fold, slice_get, Option, Some, None, if◌then◌else◌}
+use Rattle.std.specs.Prelude.{◌≡◌, ◌≢◌, ℕ, ℤ, pos, negsuc, Bool, true, false, not, ◌&&◌, ◌==◌, List, [], ◌∷◌, fold, slice_get, Option, Some, None, if◌then◌else◌}
 use Rattle.indexmap.specs.IndexMap.{IndexMap, get}
 use Rattle.i7_claims.specs.Firsts.{first_of}
 use Rattle.i7_kinds.specs.Knowns.{Scope}
@@ -10,7 +10,7 @@ use Rattle.i7_claims.specs.declared.claim.Claim.{Claim}
 use Rattle.i7_claims.specs.declared.claim.Fact.{Fact}
 use Rattle.i7_claims.specs.declared.claim.Fact.TheVariants.{Has, Starts, Usually}
 use Rattle.i7_claims.specs.declared.claim.Value.{Value}
-use Rattle.i7_claims.specs.declared.claim.Value.TheVariants.{Truth, Amount}
+use Rattle.i7_claims.specs.declared.claim.Value.TheVariants.{Truth, Amount, Choice, Never}
 use Rattle.i7_kinds.specs.declared.values.Bearer.{Bearer}
 use Rattle.i7_kinds.specs.declared.values.Bearer.TheVariants.{Objects, Kinds, Variables}
 use Rattle.i7_kinds.specs.declared.values.Told.{Told}
@@ -26,10 +26,15 @@ no_values bearer property = None
 abbrev pub told_as : ℕ → ℕ → Value → Told
 told_as bearer property value = record { slot = record { bearer = bearer; property = property }; value = value }
 
+-- what is said of a property; what a value isn't tells nothing
+abbrev pub told_of : ℕ → ℕ → Value → Option Told
+told_of bearer property Never = None
+told_of bearer property value = Some (told_as bearer property value)
+
 -- what a fact says of the properties of objects, or of kinds that are there, or of variables
 abbrev pub told_by : Bearer → Scope → Fact → Option Told
-told_by Objects s (Has h) = Some (told_as (number_in s.objects h.object) (number_in s.properties h.property) h.value)
-told_by Kinds s (Usually u) = if has_name s.kinds u.kind then Some (told_as (number_in s.kinds u.kind) (number_in s.properties u.property) u.value) else None
+told_by Objects s (Has h) = told_of (number_in s.objects h.object) (number_in s.properties h.property) h.value
+told_by Kinds s (Usually u) = if has_name s.kinds u.kind then told_of (number_in s.kinds u.kind) (number_in s.properties u.property) u.value else None
 told_by Variables s (Starts v) = Some (told_as (number_in s.variables v.variable) 0 (Amount v.number))
 told_by _ s _ = None
 
@@ -63,6 +68,8 @@ is_same_number _ _ = false
 abbrev pub is_same : Value → Value → Bool
 is_same (Truth a) (Truth b) = if a then b else not b
 is_same (Amount a) (Amount b) = is_same_number a b
+is_same (Choice a) (Choice b) = a == b
+is_same Never Never = true
 is_same _ _ = false
 
 abbrev pub is_other : Option Value → Value → Bool

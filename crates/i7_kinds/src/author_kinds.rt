@@ -19,6 +19,7 @@ fn is_unknown(names: &Strings, fact: &Fact) -> bool
         Fact::Lies(lying) => !names.contains(lying.parent.as_slice()),
         Fact::CanBe(grant) => !names.contains(grant.kind.as_slice()),
         Fact::HasNumber(grant) => !names.contains(grant.kind.as_slice()),
+        Fact::HasValue(grant) => !names.contains(grant.kind.as_slice()),
         Fact::Demands(demand) => !names.contains(demand.kind.as_slice()),
         Fact::Usually(usual) => !names.contains(usual.kind.as_slice()),
         Fact::Unread(_) => true,

@@ -1,14 +1,15 @@
 //! What a source declares besides objects.
-ghost use Rattle.std.specs.Prelude.{◌≡◌, ◌≤◌, IfOk, length, map};
+ghost use Rattle.std.specs.Prelude.{◌≡◌, ◌≤◌, ◌+◌, IfOk, length, map};
 ghost use Rattle.i7_kinds.specs.Grants.{built_in_bases};
-ghost use Rattle.i7_kinds.specs.KindClaims.{AreSmallKinds, declared_by, flags_by, givens_by, is_recurring, is_recurring_by, kind_names, numbers_by, parents_of, recurs_by, says_recurring, scenes_of, start_in, start_of, starts_of};
+ghost use Rattle.i7_kinds.specs.KindClaims.{AreSmallKinds, declared_by, flags_by, givens_by, is_recurring, is_recurring_by, kind_names, numbers_by, parents_of, recurs_by, says_recurring, scenes_of, start_in, start_of, starts_of, value_kinds_by};
 
 use crate::author_kinds::{kind_nos, parents_of};
 use crate::grants::{Given, flags_from, givens_of};
+use crate::value_kinds::value_kinds_from;
 use i7_claims::{Claim, Fact, Sort, Standing, names_as, property_names};
 use object_words::Strings;
 use std::alloc::{AllocError, Global};
-use world_meaning::{Declared, Granted, KindNo, Listed, PROPERTIES};
+use world_meaning::{Declared, Granted, KindNo, Listed, PROPERTIES, ValueKind};
 
 /// What a variable starts at: what the first sentence says that says it, and else 0.
 fn start_of(claims: &[Claim], name: &[u8]) -> i32
@@ -127,12 +128,34 @@ fn numbers_by(
     Ok(numbers)
 }
 
+/// The kinds of value, where the kinds are these and there are so many properties of other sorts.
+fn value_kinds_by(
+    alloc: Global,
+    kinds: &[Option<KindNo>],
+    givens: &[Given],
+    first: usize,
+    claims: &[Claim],
+) -> Result<Vec<ValueKind>, AllocError>
+    requires kinds { kinds.now ≡ parents_of (kind_names claims.now) claims.now }
+    requires givens { givens.now ≡ givens_by claims.now }
+    requires first { first ≡ length (flags_by claims.now) + length (numbers_by claims.now) }
+    requires short { length kinds.now ≤ 100 }
+    requires few { length (flags_by claims.now) ≤ 100 }
+    requires few_numbers { length (numbers_by claims.now) ≤ 100 }
+    ensures { IfOk result (λ values. values.items ≡ value_kinds_by claims.now) }
+{
+    let names = names_as(alloc, Sort::ValueKind, claims)?;
+    let values = value_kinds_from(alloc, kinds, givens, first, claims, names.as_slice())?;
+    Ok(values)
+}
+
 /// What a source declares besides objects, where its kinds have these names; nothing is claimed of its actions.
 pub fn declared_by(alloc: Global, names: &Strings, claims: &[Claim]) -> Result<Declared, AllocError>
     requires named { names.now ≡ kind_names claims.now }
     requires few { AreSmallKinds (parents_of names.now claims.now) }
     requires short { length (parents_of names.now claims.now) ≤ 100 }
     requires few_flags { length (declared_by claims.now).flags ≤ 100 }
+    requires few_numbers { length (declared_by claims.now).numbers ≤ 100 }
     ensures { IfOk result (λ declared. declared ≡ declared_by claims.now) }
 {
     let parents = parents_of(alloc, names, claims)?;
@@ -141,6 +164,8 @@ pub fn declared_by(alloc: Global, names: &Strings, claims: &[Claim]) -> Result<D
     let flags = flags_by(alloc, kinds.as_slice(), givens.as_slice(), claims)?;
     let first = flags.len();
     let numbers = numbers_by(alloc, kinds.as_slice(), givens.as_slice(), first, claims)?;
+    let behind = first + numbers.len();
+    let values = value_kinds_by(alloc, kinds.as_slice(), givens.as_slice(), behind, claims)?;
     let variables = names_as(alloc, Sort::Variable, claims)?;
     let starts = starts_of(alloc, claims, variables.as_slice())?;
     let scenes = names_as(alloc, Sort::Scene, claims)?;
@@ -154,6 +179,6 @@ pub fn declared_by(alloc: Global, names: &Strings, claims: &[Claim]) -> Result<D
         scenes: Listed::new(recurring),
         rulebooks: rulebooks.len(),
         actions: Listed::new(Vec::new(alloc)),
-        values: Listed::new(Vec::new(alloc)),
+        values: Listed::new(values),
     })
 }

@@ -5,7 +5,7 @@ ghost use Rattle.i7_kinds.specs.Described.{descriptions_in};
 ghost use Rattle.i7_kinds.specs.Doors.{door_twice};
 ghost use Rattle.i7_kinds.specs.KindClaims.{kind_cycle};
 ghost use Rattle.i7_kinds.specs.Knowns.{off_path as off_path_of};
-ghost use Rattle.i7_claims.specs.NameScans.{book_twice, name_twice};
+ghost use Rattle.i7_claims.specs.NameScans.{book_twice, list_twice, name_twice};
 ghost use Rattle.i7_kinds.specs.Places.{holder_cycle, second_place};
 ghost use Rattle.i7_claims.specs.Scans.{earlier};
 ghost use Rattle.i7_claims.specs.Sorts.{name_too_many};
@@ -23,15 +23,19 @@ use crate::knowns::Known;
 use crate::places::{holder_cycle, second_place};
 use crate::scope::Scope;
 use crate::suits::unsuited;
+use crate::value_kinds::unlisted;
 use crate::values::{Bearer, value_twice};
 use crate::ways::Ways;
-use i7_claims::{Claim, NumberedSentence, Sort, book_twice, earlier, name_twice, too_many_as};
+use i7_claims::{
+    Claim, NumberedSentence, Sort, book_twice, earlier, list_too_long, list_twice, name_twice,
+    too_many_as,
+};
 use std::alloc::{AllocError, Global};
 
 /// The lowest line of each fault.
 #[derive(Clone, Copy, Debug, PartialEq, Eq)]
 pub struct Faults {
-    /// A name, a description or a value that is a second one.
+    /// A name, a list of values, a description or a value that is a second one.
     pub twice: Option<u32>,
     /// A kind that isn't there.
     pub unknown: Option<u32>,
@@ -41,11 +45,13 @@ pub struct Faults {
     pub wrong: Option<u32>,
     /// A second place of an object or of an exit, or a door's rooms again.
     pub second: Option<u32>,
-    /// A name that is one too many.
+    /// A name that is one too many, or a list of values that is too long.
     pub too_many: Option<u32>,
+    /// A kind of value without values.
+    pub unlisted: Option<u32>,
 }
 
-/// The lowest line of a name that is one too many of its sort.
+/// The lowest line of a name that is one too many of its sort, or of a list of values that is too long.
 fn name_too_many(alloc: Global, claims: &[Claim]) -> Result<Option<u32>, AllocError>
     ensures { IfOk result (λ line. line ≡ name_too_many claims.now) }
 {
@@ -54,26 +60,30 @@ fn name_too_many(alloc: Global, claims: &[Claim]) -> Result<Option<u32>, AllocEr
     let variable = too_many_as(alloc, Sort::Variable, claims)?;
     let rulebook = too_many_as(alloc, Sort::Rulebook, claims)?;
     let scene = too_many_as(alloc, Sort::Scene, claims)?;
-    let others = earlier(variable, earlier(rulebook, scene));
+    let kind = too_many_as(alloc, Sort::ValueKind, claims)?;
+    let values = earlier(kind, list_too_long(claims));
+    let others = earlier(variable, earlier(rulebook, earlier(scene, values)));
     Ok(earlier(either_or, earlier(number, others)))
 }
 
-/// The lowest line of what is a second name, description or value.
+/// The lowest line of what is a second name, list of values, description or value.
 fn twice(
     alloc: Global,
     scope: &Scope<'_>,
     claims: &[Claim],
     descriptions: &Descriptions<'_>,
 ) -> Result<Option<u32>, AllocError>
-    ensures { IfOk result (λ line. line ≡ earlier (name_twice claims.now) (earlier (book_twice claims.now) (earlier (second_description (descriptions_in descriptions.now)) (earlier (value_twice Objects scope.now claims.now) (earlier (value_twice Kinds scope.now claims.now) (value_twice Variables scope.now claims.now)))))) }
+    ensures { IfOk result (λ line. line ≡ earlier (name_twice claims.now) (earlier (book_twice claims.now) (earlier (list_twice claims.now)
+        (earlier (second_description (descriptions_in descriptions.now)) (earlier (value_twice Objects scope.now claims.now) (earlier (value_twice Kinds scope.now claims.now) (value_twice Variables scope.now claims.now))))))) }
 {
     let name = name_twice(alloc, claims)?;
     let book = book_twice(alloc, claims)?;
+    let list = list_twice(alloc, claims)?;
     let value = value_twice(alloc, Bearer::Objects, scope, claims)?;
     let usual = value_twice(alloc, Bearer::Kinds, scope, claims)?;
     let start = value_twice(alloc, Bearer::Variables, scope, claims)?;
     let said = earlier(descriptions.second(), earlier(value, earlier(usual, start)));
-    Ok(earlier(name, earlier(book, said)))
+    Ok(earlier(name, earlier(book, earlier(list, said))))
 }
 
 /// The lowest line of what closes a cycle.
@@ -135,5 +145,6 @@ pub fn faults_of(
         wrong: wrong(scope, knowns, off_path, claims, ways.statements()),
         second: second(alloc, scope, claims, ways)?,
         too_many: earlier(kind_too_many(claims), name_too_many(alloc, claims)?),
+        unlisted: unlisted(claims),
     })
 }

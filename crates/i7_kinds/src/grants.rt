@@ -43,6 +43,7 @@ fn add_given(
     match fact {
         Fact::CanBe(grant) => add_grant(properties, kinds, givens, grant),
         Fact::HasNumber(grant) => add_grant(properties, kinds, givens, grant),
+        Fact::HasValue(grant) => add_grant(properties, kinds, givens, grant),
         _ => Ok(()),
     }
 }
@@ -126,7 +127,8 @@ fn rising_of(
     Ok(found)
 }
 
-fn flag_of(
+/// The property of this number, with these kinds already.
+pub fn flag_of(
     alloc: Global,
     kinds: &[Option<KindNo>],
     givens: &[Given],

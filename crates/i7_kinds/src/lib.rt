@@ -25,6 +25,7 @@ mod refusal_laws;
 mod scope;
 mod suits;
 mod tale;
+mod value_kinds;
 mod values;
 mod ways;
 
@@ -33,7 +34,10 @@ pub use claim_laws::{
     holder_cycles_are_found, kinds_too_many_are_found, longer_names_are_found,
     second_places_are_found, unknown_kinds_are_found, values_twice_are_found,
 };
-pub use i7_claims::{books_twice_are_found, names_too_many_are_found, names_twice_are_found};
+pub use i7_claims::{
+    books_twice_are_found, lists_twice_are_found, long_lists_are_found, names_too_many_are_found,
+    names_twice_are_found,
+};
 pub use kind_laws::{
     kinds_are_the_deepest_demanded, kinds_lie_as_claimed, kinds_meant_are_one,
     order_of_sentences_is_nothing_to_kinds, order_of_sentences_is_nothing_to_objects,

@@ -7,21 +7,24 @@ ghost use Rattle.i7_kinds.specs.Demands.{target_of};
 ghost use Rattle.i7_kinds.specs.Making.{made_of};
 ghost use Rattle.i7_kinds.specs.StatedWays.{stated};
 ghost use Rattle.i7_kinds.specs.Tales.{entries_of, exits_by, exits_of, kind_at, object_as, object_of, objects_of, way_to};
+ghost use Rattle.i7_kinds.specs.ValueKinds.{AreFewValues};
 ghost use Rattle.i7_claims.specs.Views.{mentions_of};
 
 use crate::descriptions::Descriptions;
 use crate::entries::{Entry, entries_of};
 use crate::numbers::numbers_of;
 use crate::properties::properties_of;
+use crate::value_kinds::choices_of;
 use crate::values::Values;
 use crate::ways::Ways;
 use i7_claims::Mention;
 use std::alloc::{AllocError, Global};
 use world_meaning::{
-    Direction, Exits, Granted, KindNo, Listed, ObjNo, Object, Place, TextBytes, Way, is_under,
+    Direction, Exits, Granted, KindNo, Listed, ObjNo, Object, Place, TextBytes, ValueKind, Way,
+    is_under,
 };
 
-/// What the objects of a tale are made from: their kinds and places, which kinds have which properties, what sentences
+/// What the objects of a tale are made from: their kinds and places, which kinds have which properties, kinds of value, what sentences
 /// say of those and what is usual, the texts that describe rooms, and ways.
 #[derive(Drop)]
 pub struct Makings<'a> {
@@ -30,6 +33,7 @@ pub struct Makings<'a> {
     pub places: &'a [Option<Place>],
     pub flags: &'a [Granted],
     pub numbers: &'a [Granted],
+    pub value_kinds: &'a [ValueKind],
     pub values: &'a Values,
     pub usuals: &'a Values,
     pub descriptions: &'a Descriptions<'a>,
@@ -136,6 +140,8 @@ fn object_as(
 ) -> Result<Object, AllocError>
     requires within { LeadWithin (stated makings.now.ways.now) }
     requires few_flags { length makings.now.flags.now ≤ 100 }
+    requires few_numbers { length makings.now.numbers.now ≤ 100 }
+    requires few_values { AreFewValues makings.now.value_kinds.now }
     ensures { IfOk result (λ object. object ≡ object_as (made_of makings.now) kind number entry.now) }
 {
     Ok(Object {
@@ -147,7 +153,7 @@ fn object_as(
         exits: exits_by(makings, kind, number),
         properties: Listed::new(properties_of(alloc, makings, number, kind)?),
         numbers: Listed::new(numbers_of(alloc, makings, number, kind)?),
-        values: Listed::new(Vec::new(alloc)),
+        values: Listed::new(choices_of(alloc, makings, number, kind)?),
     })
 }
 
@@ -161,6 +167,8 @@ fn push_object(
 ) -> Result<(), AllocError>
     requires within { LeadWithin (stated makings.now.ways.now) }
     requires few_flags { length makings.now.flags.now ≤ 100 }
+    requires few_numbers { length makings.now.numbers.now ≤ 100 }
+    requires few_values { AreFewValues makings.now.value_kinds.now }
     ensures { OnOk result (objects.new.items ≡ objects.old.items ++ object_of (made_of makings.now) number entry.now ∷ []) }
 {
     let kind = kind_at(makings.kinds, number);
@@ -177,6 +185,8 @@ fn objects_from(
 ) -> Result<Vec<Object>, AllocError>
     requires within { LeadWithin (stated makings.now.ways.now) }
     requires few_flags { length makings.now.flags.now ≤ 100 }
+    requires few_numbers { length makings.now.numbers.now ≤ 100 }
+    requires few_values { AreFewValues makings.now.value_kinds.now }
     ensures { IfOk result (λ objects. objects.items ≡ objects_of (made_of makings.now) 0 entries.now) }
 {
     let mut objects = Vec::with_capacity(alloc, entries.len())?;
@@ -198,6 +208,8 @@ pub fn objects_of(
 ) -> Result<Listed<Object>, AllocError>
     requires within { LeadWithin (stated makings.now.ways.now) }
     requires few_flags { length makings.now.flags.now ≤ 100 }
+    requires few_numbers { length makings.now.numbers.now ≤ 100 }
+    requires few_values { AreFewValues makings.now.value_kinds.now }
     ensures { IfOk result (λ objects. objects ≡ objects_of (made_of makings.now) 0 (entries_of (mentions_of mentions.now))) }
 {
     let entries = entries_of(alloc, mentions)?;

@@ -5,14 +5,14 @@ ghost use Rattle.world_meaning.specs.Placing.{can_be_held, can_hold, keeps_playe
 ghost use Rattle.i7_kinds.specs.Knowns.{kinds_known};
 ghost use Rattle.world_meaning.specs.Kinds.{is_under as lies_under};
 ghost use Rattle.i7_kinds.specs.Grants.{built_in_bases};
-ghost use Rattle.i7_kinds.specs.Suits.{can_be, first_room, kinds_in, is_lacking, is_never, is_unsuited, room_from, suits, unsuited, with_player};
+ghost use Rattle.i7_kinds.specs.Suits.{can_be, first_room, kinds_in, is_lacking, is_never, is_never_said, is_unsuited, lacks, room_from, suits, unsuited, with_player};
 
 use crate::author_kinds::is_under;
 use crate::grants::Given;
 use crate::knowns::{Known, is_of, is_parted_at, kind_of, known_at};
 use crate::places::{Spot, place_of, put};
 use crate::scope::Scope;
-use i7_claims::{Claim, FIRST_OF_AUTHOR, Fact, Having, Usual, lower};
+use i7_claims::{Claim, FIRST_OF_AUTHOR, Fact, Having, Usual, Value, lower};
 use world_meaning::{KindNo, PROPERTIES, PropertyRow, Rel};
 
 fn can_hold(parents: &[Option<usize>], knowns: &[Known], place: Spot) -> bool
@@ -86,22 +86,38 @@ fn can_be(scope: &Scope<'_>, kind: usize, property: usize) -> bool
         || is_given(scope.parents(), scope.givens(), kind, property)
 }
 
-/// Whether the kind of an object, where it is known, lacks a property.
+/// Whether what is said of a kind of value is none of its values.
+fn is_never_said(value: Value) -> bool
+    ensures { result ≡ is_never_said value }
+{
+    matches!(value, Value::Never)
+}
+
+/// Whether the kind of an object, where it is known, lacks a property, or the value is none of the property's.
 fn is_lacking(scope: &Scope<'_>, knowns: &[Known], having: &Having) -> bool
     ensures { result ≡ is_lacking scope.now knowns.now having.now }
 {
     let object = scope.object(having.object.as_slice());
     let property = scope.property(having.property.as_slice());
-    !is_parted_at(knowns, object) && !can_be(scope, kind_of(known_at(knowns, object)), property)
+    is_never_said(having.value)
+        || !is_parted_at(knowns, object)
+            && !can_be(scope, kind_of(known_at(knowns, object)), property)
 }
 
 /// Whether a kind lacks the property of which something is usual.
-fn is_never(scope: &Scope<'_>, usual: &Usual) -> bool
-    ensures { result ≡ is_never scope.now usual.now }
+fn lacks(scope: &Scope<'_>, usual: &Usual) -> bool
+    ensures { result ≡ lacks scope.now usual.now }
 {
     let kind = scope.kind(usual.kind.as_slice());
     let property = scope.property(usual.property.as_slice());
     !can_be(scope, kind, property)
+}
+
+/// Whether it does, or the value is none of the property's.
+fn is_never(scope: &Scope<'_>, usual: &Usual) -> bool
+    ensures { result ≡ is_never scope.now usual.now }
+{
+    is_never_said(usual.value) || lacks(scope, usual)
 }
 
 fn is_unsuited(scope: &Scope<'_>, knowns: &[Known], fact: &Fact) -> bool
@@ -120,7 +136,7 @@ fn is_unsuited(scope: &Scope<'_>, knowns: &[Known], fact: &Fact) -> bool
     }
 }
 
-/// The lowest line of a place that the kinds don't allow, or of a property that they lack.
+/// The lowest line of a place that the kinds don't allow, of a property that they lack, or of a value that is none of the property's.
 pub fn unsuited(scope: &Scope<'_>, knowns: &[Known], claims: &[Claim]) -> Option<u32>
     ensures { result ≡ unsuited scope.now knowns.now claims.now }
 {

@@ -10,6 +10,7 @@ ghost use Rattle.i7_kinds.specs.Places.{places_by};
 ghost use Rattle.i7_kinds.specs.StatedWays.{stated};
 ghost use Rattle.i7_kinds.specs.Suits.{first_room, with_player};
 ghost use Rattle.i7_kinds.specs.Tales.{entries_of, frame_refusal, judged, limit_refusal, made_of, no_room, objects_of, refusal_at, refusal_of, said_by, said_in, scope_of, tale_said};
+ghost use Rattle.i7_kinds.specs.ValueKinds.{AreFewValues};
 ghost use Rattle.i7_claims.specs.Statements.{named_by};
 ghost use Rattle.i7_claims.specs.Views.{mentions_of, names_of};
 
@@ -59,7 +60,7 @@ fn no_room(room: Option<usize>) -> Option<u32>
 }
 
 /// What sentences may not say together: a name or a description twice, a kind that isn't there, a cycle, a wrong
-/// kind, a second place, a name too many, no room; each is looked for in all of them before the next.
+/// kind, a second place, a name too many, no room, a kind of value without values; each is looked for in all of them before the next.
 #[tactic(auto, unfolding(crate::specs::Tales::frame_refusal))]
 fn frame_refusal(faults: Faults, mentions: &[Mention<'_>], room: Option<usize>) -> Option<Fault>
     ensures { result ≡ frame_refusal faults (mentions_of mentions.now) room }
@@ -83,7 +84,10 @@ fn frame_refusal(faults: Faults, mentions: &[Mention<'_>], room: Option<usize>) 
     if let Some(fault) = refusal_at(FaultCode::TooMany, too_many) {
         return Some(fault);
     }
-    refusal_at(FaultCode::NoRoom, no_room(room))
+    if let Some(fault) = refusal_at(FaultCode::NoRoom, no_room(room)) {
+        return Some(fault);
+    }
+    refusal_at(FaultCode::NoValues, faults.unlisted)
 }
 
 /// The first name or text that is too long.
@@ -157,6 +161,8 @@ fn objects_meant(
     requires small_kinds { AreSmallKnowns knowns.now }
     requires declared { declared.now ≡ declared_by claims.now }
     requires few_flags { length (declared_by claims.now).flags ≤ 100 }
+    requires few_numbers { length (declared_by claims.now).numbers ≤ 100 }
+    requires few_values { AreFewValues (declared_by claims.now).values }
     requires small_places { AreSmallPlaces (with_player (places_by scope.now.objects claims.now) (first_room scope.now.parents knowns.now)) }
     ensures { IfOk result (λ objects. objects ≡ objects_of (made_of scope.now knowns.now claims.now (stated ways.now)) 0 (entries_of (mentions_of mentions.now))) }
 {
@@ -171,6 +177,7 @@ fn objects_meant(
         places: places.as_slice(),
         flags: declared.flags.as_slice(),
         numbers: declared.numbers.as_slice(),
+        value_kinds: declared.values.as_slice(),
         values: &values,
         usuals: &usuals,
         descriptions,
@@ -263,7 +270,7 @@ fn tale_said(alloc: Global, claimed: &Claimed<'_>) -> Result<Result<Tale, Fault>
 
 /// The tale that the sentences mean, or the refusal that stands, each code being looked for in the
 /// whole source before the next, at the first sentence that shows it: C9, C7, C11, C8, C10, C12 of what is one too
-/// many, C13, then C12 of names and of texts that are too long. Memory is C14, at line 1.
+/// many, C13, C16, then C12 of names and of texts that are too long. Memory is C14, at line 1.
 pub fn tale_of(alloc: Global, claimed: &Claimed<'_>) -> Result<Tale, Fault>
     ensures told { IfOk result (λ tale. tale_said claimed.now ≡ Ok tale) }
     ensures refused { IfErr result (λ fault. (tale_said claimed.now ≡ Err fault) ⊎ (fault ≡ out_of_memory)) }

@@ -4,7 +4,7 @@
 //! What each claim tells is marked `inline(always)`, since each loop over the claims asks for few of them.
 ghost use Rattle.std.specs.Prelude.{◌≡◌, IfOk, OnOk};
 ghost use Rattle.i7_claims.specs.Numbers.{number_in};
-ghost use Rattle.i7_kinds.specs.Values.{is_contrary, is_other, is_same, told_as, told_by, value_at, value_in, value_twice, values_by, with_slot, with_told};
+ghost use Rattle.i7_kinds.specs.Values.{is_contrary, is_other, is_same, told_as, told_by, told_of, value_at, value_in, value_twice, values_by, with_slot, with_told};
 ghost use Rattle.i7_claims.specs.declared.claim.Fact.TheVariants.{Usually};
 ghost use Rattle.i7_claims.specs.declared.claim.Value.TheVariants.{Amount};
 ghost use Rattle.i7_kinds.specs.declared.values.Bearer.TheVariants.{Kinds};
@@ -46,12 +46,24 @@ fn told_as(bearer: usize, property: usize, value: Value) -> Told
     Told { slot, value }
 }
 
-fn told_of_object(scope: &Scope<'_>, having: &Having) -> Told
-    ensures { result ≡ told_as (number_in scope.now.objects having.now.object) (number_in scope.now.properties having.now.property) having.now.value }
+/// What is said of a property; what a value isn't tells nothing.
+fn told_of(bearer: usize, property: usize, value: Value) -> Option<Told>
+    ensures { result ≡ told_of bearer property value }
+{
+    match value {
+        Value::Never => None,
+        Value::Truth(_) | Value::Amount(_) | Value::Choice(_) => {
+            Some(told_as(bearer, property, value))
+        }
+    }
+}
+
+fn told_of_object(scope: &Scope<'_>, having: &Having) -> Option<Told>
+    ensures { result ≡ told_of (number_in scope.now.objects having.now.object) (number_in scope.now.properties having.now.property) having.now.value }
 {
     let object = scope.object(having.object.as_slice());
     let property = scope.property(having.property.as_slice());
-    told_as(object, property, having.value)
+    told_of(object, property, having.value)
 }
 
 /// What is usual of a kind that is there.
@@ -60,7 +72,7 @@ fn told_of_kind(scope: &Scope<'_>, usual: &Usual) -> Option<Told>
 {
     let kind = scope.kind_named(usual.kind.as_slice())?;
     let property = scope.property(usual.property.as_slice());
-    Some(told_as(kind, property, usual.value))
+    told_of(kind, property, usual.value)
 }
 
 fn told_of_variable(scope: &Scope<'_>, start: &Start) -> Told
@@ -77,7 +89,7 @@ fn told_by(bearer: Bearer, scope: &Scope<'_>, fact: &Fact) -> Option<Told>
 {
     match bearer {
         Bearer::Objects => match fact {
-            Fact::Has(having) => Some(told_of_object(scope, having)),
+            Fact::Has(having) => told_of_object(scope, having),
             _ => None,
         },
         Bearer::Kinds => match fact {
@@ -142,12 +154,17 @@ fn is_same(first: Value, value: Value) -> bool
     match first {
         Value::Truth(a) => match value {
             Value::Truth(b) => { if a { b } else { !b } }
-            Value::Amount(_) => false,
+            _ => false,
         },
         Value::Amount(a) => match value {
-            Value::Truth(_) => false,
             Value::Amount(b) => a == b,
+            _ => false,
         },
+        Value::Choice(a) => match value {
+            Value::Choice(b) => a == b,
+            _ => false,
+        },
+        Value::Never => matches!(value, Value::Never),
     }
 }
 

@@ -9,7 +9,7 @@ use Rattle.i7_sentences.specs.declared.sentence.Sentence.{Sentence}
 use Rattle.i7_conditions.specs.Meanings.{Meanings}
 use Rattle.i7_claims.specs.Claims.{claims_of}
 use Rattle.i7_claims.specs.NameScans.{built_in_standings, name_twice, no_standings, with_naming}
-use Rattle.i7_claims.specs.Plurals.{plural_of}
+use Rattle.i7_sentences.specs.Plurals.{plural_of}
 use Rattle.i7_claims.specs.Standings.{built_in_namings, namings_in, namings_of}
 use Rattle.i7_claims.specs.Statements.{named_by}
 use Rattle.i7_claims.specs.declared.claim.Claim.{Claim}

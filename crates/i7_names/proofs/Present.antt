@@ -1,7 +1,8 @@
 -- What the names of a source stand for is there.
-use Rattle.std.proofs.Common.{◌≡◌, ℕ, ◌-◌, ◌==◌, ◌<◌, length, Bool, true, false, List, [], ◌∷◌, refl, subst}
-use Rattle.std.specs.Prelude.{Option, None, Some, bytes_eq, codes, fold, if◌then◌else◌, nat_le, option_map, position}
+use Rattle.std.proofs.Common.{◌≡◌, ℕ, ◌-◌, ◌==◌, ◌<◌, ◌&&◌, length, Bool, true, false, List, [], ◌∷◌, refl, subst, inl, inr}
+use Rattle.std.specs.Prelude.{Option, None, Some, bytes_eq, codes, fold, if◌then◌else◌, nat_le, nat_lt, option_map, position}
 use Rattle.std.specs.Option.{option_or}
+use Rattle.std.proofs.lemmas.Bool.{and_parts, cases_Bool, ltb-true}
 use Rattle.std.proofs.lemmas.List.Quantifiers.{position-Some}
 use Rattle.world_meaning.specs.Spelling.{lowered}
 use Rattle.i7_sentences.specs.declared.sentence.Sentence.{Sentence}
@@ -10,7 +11,7 @@ use Rattle.i7_conditions.specs.There.{AreNamesThere, ArePluralsThere, Counts, Is
 use Rattle.i7_conditions.specs.declared.meaning.Meaning.{Meaning}
 use Rattle.i7_conditions.specs.declared.meaning.Meaning.TheVariants as meaning
 use Rattle.i7_claims.specs.Claims.{claims_of}
-use Rattle.i7_claims.specs.Plurals.{plural_of}
+use Rattle.i7_sentences.specs.Plurals.{plural_of}
 use Rattle.i7_claims.specs.Standings.{built_in_namings}
 use Rattle.i7_claims.specs.declared.claim.Claim.{Claim}
 use Rattle.i7_claims.specs.declared.claim.Fact.{Fact}
@@ -20,7 +21,7 @@ use Rattle.i7_claims.specs.declared.claim.Standing.{Standing}
 use Rattle.i7_claims.specs.declared.claim.Standing.TheVariants as stands
 use Rattle.play_meaning.specs.declared.tree.object.Side.TheVariants.{First, Second}
 use Rattle.i7_names.specs.Known.{Known, nothing_known, with_name, with_plural}
-use Rattle.i7_names.specs.Meant.{meaning_as, named_in, quality_on, with_claim, with_fact, with_naming}
+use Rattle.i7_names.specs.Meant.{meaning_as, named_in, quality_on, value_at, value_count, value_kind_at, with_claim, with_fact, with_naming}
 use Rattle.i7_names.specs.Numbering.{Numbering, numbering_of}
 use Rattle.i7_names.specs.Numbers.{at_most, object_number, small_number}
 use Rattle.i7_names.specs.PluralNames.{with_irregular, with_plurals, with_regular}
@@ -71,6 +72,24 @@ module _ (n : Numbering) where
   abbrev z : Counts
   z = counts_by n
 
+  value_kind_there : (kind : Option ℕ) → Holds (IsThere z) (value_kind_at n kind)
+  value_kind_there None = of_none (IsThere z)
+  value_kind_there (Some q) =
+      elim (cases_Bool (nat_lt 0 (value_count n q))) [
+        | inl is ↦ rw is (λ x e. let same : meaning.ValueKind q ≡ x = cc in subst (IsThere z) same (ltb-true 0 (value_count n q) is))
+        | inr isnt ↦ rw isnt (of_none (IsThere z))
+      ]
+
+  value_there : (place : ℕ) (kind : Option ℕ) → Holds (IsThere z) (value_at n place kind)
+  value_there place None = of_none (IsThere z)
+  value_there place (Some q) =
+      elim (cases_Bool (nat_lt place (value_count n q) && nat_le place 255)) [
+        | inl is ↦
+            let within = (and_parts (nat_lt place (value_count n q)) (nat_le place 255) is).0 in
+            rw is (λ x e. let same : meaning.Value q place ≡ x = cc in subst (IsThere z) same (ltb-true place (value_count n q) within))
+        | inr isnt ↦ rw isnt (of_none (IsThere z))
+      ]
+
   meant_there : (name : List ℕ) (standing : Standing) → Holds (IsThere z) (meaning_as n name standing)
   meant_there name stands.Reserved = of_none (IsThere z)
   meant_there name stands.Kind = of_map (IsThere z) meaning.Kind (small_number n.kinds name) (small_there n.kinds name)
@@ -79,6 +98,8 @@ module _ (n : Numbering) where
   meant_there name stands.Number = of_map (IsThere z) meaning.Number (small_number n.numbers name) (small_there n.numbers name)
   meant_there name stands.Variable = of_map (IsThere z) meaning.Variable (small_number n.variables name) (small_there n.variables name)
   meant_there name (stands.Scene recurs) = of_map (IsThere z) meaning.Scene (small_number n.scenes name) (small_there n.scenes name)
+  meant_there name stands.ValueKind = value_kind_there (small_number n.value_kinds name)
+  meant_there name (stands.Value value) = value_there value.place (small_number n.value_kinds value.kind)
   meant_there name stands.Object = of_map (IsThere z) meaning.Object (object_number n.objects name) (object_there n.objects name)
 
   given_there : {X : Type 0} (So : X → Type 0) (key : List ℕ) (value : X) (name : List ℕ) → So value → Holds So (given key value name)

@@ -1,5 +1,5 @@
 -- The names that a source claims anything of are in small letters.
-use Rattle.std.proofs.Common.{◌≡◌, ℕ, Bool, true, false, List, [], ◌∷◌, ◌++◌, refl, ap, ◌∙◌, map}
+use Rattle.std.proofs.Common.{◌≡◌, ℕ, ◌+◌, Bool, true, false, List, [], ◌∷◌, ◌++◌, refl, ap, ◌∙◌, map}
 use Rattle.std.specs.Prelude.{ℤ, Option, Some, None, codes, flat_map, if◌then◌else◌}
 use Rattle.std.specs.Char.{to_ascii_lowercase}
 use Rattle.std.proofs.lemmas.Str.Ascii.{lowercase-lowercase}
@@ -13,7 +13,7 @@ use Rattle.i7_sentences.specs.declared.sentence.Being.{Being}
 use Rattle.i7_sentences.specs.declared.sentence.Holder.{Holder}
 use Rattle.i7_sentences.specs.declared.sentence.Sentence.{Sentence}
 use Rattle.i7_claims.specs.Beings.{names_said}
-use Rattle.i7_claims.specs.Claims.{claimed, claims_in, claims_of, claims_said, demands, demands_said, either_or, has, has_all, has_quality, holder_demands, kind_said, known_by, named, number_claim, placed, placings_said, qualities_said, start_claim, usual, usual_claims, usual_kind, usual_number, usual_quality, what_claims, worn_claims}
+use Rattle.i7_claims.specs.Claims.{choice_said, claimed, claims_in, claims_of, claims_said, demands, demands_said, either_or, has, has_all, has_choice, has_quality, holder_demands, kind_said, known_by, named, number_claim, placed, placings_said, qualities_said, start_claim, usual, usual_claims, usual_kind, usual_number, usual_quality, usually_choice, values_from, what_claims, worn_claims}
 use Rattle.i7_claims.specs.NameScans.{Standings}
 use Rattle.i7_claims.specs.Standings.{is_number_name, is_variable_name, namings_in, namings_of}
 use Rattle.i7_claims.specs.Statements.{key_of}
@@ -24,6 +24,7 @@ use Rattle.i7_claims.specs.declared.claim.Fact.TheVariants.{Stands, Starts, Unre
 use Rattle.i7_claims.specs.declared.claim.Naming.{Naming}
 use Rattle.i7_claims.specs.declared.claim.Standing.{Standing}
 use Rattle.i7_claims.specs.declared.claim.Standing.TheVariants as stands
+use Rattle.i7_claims.specs.declared.claim.Value.{Value}
 use Rattle.i7_claims.specs.declared.claim.Value.TheVariants.{Amount}
 use Rattle.i7_claims.specs.declared.wording.What.{What}
 
@@ -124,6 +125,18 @@ either_or_small : (kind first : Name) (second : Option Name) (line : ℕ) → Ar
 either_or_small kind first None line = (key_small first.text, (tt, tt))
 either_or_small kind first (Some second) line = (key_small first.text, (key_small second.text, (tt, tt)))
 
+values_small : (kind : List ℕ) (line place : ℕ) (values : List Name) → AreSmallClaims (values_from kind line place values)
+values_small kind line place [] = tt
+values_small kind line place (value ∷ values) = (key_small value.text, values_small kind line (1 + place) values)
+
+choice_small : (property object value : Name) (line : ℕ) (choice : Option Value) → IsSmallFact (has_choice property object value line choice).fact
+choice_small property object value line None = tt
+choice_small property object value line (Some choice) = tt
+
+usual_choice_small : (kind : List ℕ) (property value : Name) (line : ℕ) (choice : Option Value) → IsSmallFact (usually_choice kind property value line choice).fact
+usual_choice_small kind property value line None = tt
+usual_choice_small kind property value line (Some choice) = tt
+
 said_small : (known : Standings) (said : Assertion) (line : ℕ) → AreSmallClaims (claims_said known said line)
 said_small known (assertion.Way way) line = (key_small way.subject.text, (tt, (key_small way.room.text, (tt, tt))))
 said_small known (assertion.Door door first second) line =
@@ -143,6 +156,11 @@ said_small known (assertion.KindOfKind kind parent) line = (key_small kind.text,
 said_small known (assertion.EitherOr kind first second) line = either_or_small kind first second line
 said_small known (assertion.NumberProperty kind property) line = (key_small property.text, (tt, tt))
 said_small known (assertion.Variable name) line = (key_small name.text, tt)
+said_small known (assertion.ValueKind name) line = (key_small name.text, tt)
+said_small known (assertion.Values kind values) line = (tt, values_small (key_of kind.text) line 0 values)
+said_small known (assertion.HasValue kind property) line = (tt, tt)
+said_small known (assertion.ValueOf property object value) line = (key_small object.text, (choice_small property object value line (choice_said known property value), tt))
+said_small known (assertion.UsuallyValue property kind value) line = (usual_choice_small (usual_kind known kind) property value line (choice_said known property value), tt)
 said_small known _ line = tt
 
 claims_small : (sentences : List Sentence) → AreSmallClaims (claims_of sentences)

@@ -1,6 +1,6 @@
 -- The kinds that plurals are of.
 use Rattle.std.specs.Prelude.{ℕ, ◌-◌, ◌==◌, List, length, fold, codes, if◌then◌else◌}
-use Rattle.i7_claims.specs.Plurals.{plural_of}
+use Rattle.i7_sentences.specs.Plurals.{plural_of}
 use Rattle.i7_names.specs.Known.{Known, with_plural}
 use Rattle.i7_names.specs.Numbers.{small_number}
 

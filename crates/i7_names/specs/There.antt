@@ -2,6 +2,7 @@
 use Rattle.std.specs.Prelude.{List, length}
 use Rattle.i7_conditions.specs.There.{Counts}
 use Rattle.i7_sentences.specs.declared.sentence.Sentence.{Sentence}
+use Rattle.i7_names.specs.Meant.{value_count}
 use Rattle.i7_names.specs.Numbering.{Numbering, numbering_of}
 
 abbrev pub counts_by : Numbering → Counts
@@ -12,6 +13,7 @@ counts_by n = record {
   numbers = length n.numbers;
   variables = length n.variables;
   scenes = length n.scenes;
+  values = λ q. value_count n q;
 }
 
 abbrev pub counts_in : List Sentence → Counts

@@ -15,8 +15,8 @@ pub fn names_stand_for_what_is_claimed()
     ensures { (sentences : List Sentence) → name_twice (claims_of sentences) ≡ None → AreAsClaimed (numbering_of sentences) (claimed_in sentences) (names_in sentences).meanings }
 {}
 
-/// What the names and plurals of a source stand for is there: it is one of its objects, kinds, properties, variables or
-/// scenes.
+/// What the names and plurals of a source stand for is there: it is one of its objects, kinds, properties, variables,
+/// scenes, kinds of value with values, or values.
 pub fn names_stand_for_what_is()
     ensures names { (sentences : List Sentence) → AreNamesThere (counts_in sentences) (names_in sentences).meanings }
     ensures plurals { (sentences : List Sentence) → ArePluralsThere (counts_in sentences) (names_in sentences).plurals }

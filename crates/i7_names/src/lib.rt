@@ -1,4 +1,5 @@
-//! What the names of a source stand for: objects, kinds, properties, variables and scenes, each by its number.
+//! What the names of a source stand for: objects, kinds, properties, variables, scenes, kinds of value and values, each by its
+//! number.
 #![tactic(auto)]
 
 mod laws;

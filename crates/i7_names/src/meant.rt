@@ -1,12 +1,44 @@
 //! What a name is claimed to stand for, by its number.
 ghost use Rattle.std.specs.Prelude.{◌≡◌};
-ghost use Rattle.i7_names.specs.Meant.{meaning_as};
+ghost use Rattle.i7_names.specs.Meant.{meaning_as, value_at, value_kind_at};
 
 use crate::numbering::Numbering;
 use i7_claims::Standing;
 use i7_conditions::Meaning;
 use play_meaning::tree::Side;
 use world_meaning::{KindNo, ObjNo};
+
+/// A kind of value that has some.
+fn value_kind_at(numbering: &Numbering<'_>, kind: Option<u8>) -> Option<Meaning>
+    ensures { result ≡ value_kind_at numbering.now kind }
+{
+    match kind {
+        None => None,
+        Some(kind) => {
+            if numbering.value_count(kind) > 0 {
+                Some(Meaning::ValueKind(kind))
+            } else {
+                None
+            }
+        }
+    }
+}
+
+/// The value at a place that its kind has, if a byte holds it.
+fn value_at(numbering: &Numbering<'_>, place: usize, kind: Option<u8>) -> Option<Meaning>
+    ensures { result ≡ value_at numbering.now place kind }
+{
+    match kind {
+        None => None,
+        Some(kind) => {
+            if place < numbering.value_count(kind) && place <= 255 {
+                Some(Meaning::Value(kind, place as u8))
+            } else {
+                None
+            }
+        }
+    }
+}
 
 /// What a name that is claimed to be this stands for.
 pub fn meaning_as(numbering: &Numbering<'_>, name: &[u8], standing: &Standing) -> Option<Meaning>
@@ -24,5 +56,9 @@ pub fn meaning_as(numbering: &Numbering<'_>, name: &[u8], standing: &Standing) -
         Standing::Variable => Some(Meaning::Variable(numbering.variable(name)?)),
         Standing::Scene(_) => Some(Meaning::Scene(numbering.scene(name)?)),
         Standing::Object => Some(Meaning::Object(ObjNo::new(numbering.object(name)?))),
+        Standing::ValueKind => value_kind_at(numbering, numbering.value_kind(name)),
+        Standing::Value(value) => {
+            value_at(numbering, value.place, numbering.value_kind(value.kind.as_slice()))
+        }
     }
 }

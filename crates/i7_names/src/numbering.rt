@@ -1,14 +1,15 @@
 //! The names of a source by their numbers: each is numbered among those of its sort.
-ghost use Rattle.std.specs.Prelude.{◌≡◌, IfOk};
-ghost use Rattle.i7_names.specs.Numbering.{numbering_by};
+ghost use Rattle.std.specs.Prelude.{◌≡◌, IfOk, map};
+ghost use Rattle.i7_names.specs.Numbering.{counts_listed, numbering_by};
 
 use crate::number::{object_number, small_number};
-use i7_claims::{Claim, Sort, kind_names, names_as};
+use i7_claims::{Claim, Sort, kind_names, names_as, values_listed};
 use object_words::Strings;
 use std::alloc::{AllocError, Global};
 use std::marker::Model;
 
-/// The names of objects, of kinds, of either-or properties the first, and of number properties, variables and scenes.
+/// The names of objects, of kinds, of either-or properties the first, and of number properties, variables, scenes and kinds of
+/// value, and how many values each of these has.
 #[derive(Drop)]
 pub struct Numbering<'a> {
     objects: &'a Strings,
@@ -17,6 +18,8 @@ pub struct Numbering<'a> {
     numbers: Strings,
     variables: Strings,
     scenes: Strings,
+    value_kinds: Strings,
+    value_counts: Vec<usize>,
 }
 
 impl<'a> Model for Numbering<'a> {
@@ -24,7 +27,24 @@ impl<'a> Model for Numbering<'a> {
 
     ghost Value = { Names };
 
-    ghost view = { λ n. numbering_with n.objects.now n.kinds n.qualities n.numbers n.variables n.scenes };
+    ghost view = { λ n. numbering_with n.objects.now n.kinds n.qualities n.numbers n.variables n.scenes n.value_kinds n.value_counts.items };
+}
+
+/// How many values the kinds of value of these names have.
+fn counts_listed(
+    alloc: Global,
+    claims: &[Claim],
+    names: &[Vec<u8>],
+) -> Result<Vec<usize>, AllocError>
+    ensures { IfOk result (λ counts. counts.items ≡ counts_listed claims.now (map (λ name. name.items) names.now)) }
+{
+    let mut counts = Vec::new(alloc);
+    let mut rest = names;
+    while let [name, after @ ..] = rest {
+        counts.push(values_listed(claims, name.as_slice()).len())?;
+        rest = after;
+    }
+    Ok(counts)
 }
 
 /// The numbers of what the claims declare, where the objects have these names.
@@ -35,6 +55,8 @@ pub fn numbering_of<'a>(
 ) -> Result<Numbering<'a>, AllocError>
     ensures { IfOk result (λ numbering. numbering ≡ numbering_by objects.now claims.now) }
 {
+    let value_kinds = names_as(alloc, Sort::ValueKind, claims)?;
+    let value_counts = counts_listed(alloc, claims, value_kinds.as_slice())?;
     Ok(Numbering {
         objects,
         kinds: kind_names(alloc, claims)?,
@@ -42,10 +64,13 @@ pub fn numbering_of<'a>(
         numbers: names_as(alloc, Sort::Number, claims)?,
         variables: names_as(alloc, Sort::Variable, claims)?,
         scenes: names_as(alloc, Sort::Scene, claims)?,
+        value_kinds,
+        value_counts,
     })
 }
 
 impl<'a> Numbering<'a> {
+    ghost use Rattle.i7_names.specs.Meant.{value_count};
     ghost use Rattle.i7_names.specs.Numbers.{object_number, small_number};
 
     /// The number of the object of this name.
@@ -88,6 +113,20 @@ impl<'a> Numbering<'a> {
         ensures { result ≡ small_number self.now.scenes name.now }
     {
         small_number(&self.scenes, name)
+    }
+
+    /// The number of the kind of value of this name.
+    pub fn value_kind(&self, name: &[u8]) -> Option<u8>
+        ensures { result ≡ small_number self.now.value_kinds name.now }
+    {
+        small_number(&self.value_kinds, name)
+    }
+
+    /// How many values there are of a kind of value.
+    pub fn value_count(&self, kind: u8) -> usize
+        ensures { result ≡ value_count self.now kind }
+    {
+        self.value_counts.get(kind as usize).copied().unwrap_or(0)
     }
 
     /// The names of the kinds.

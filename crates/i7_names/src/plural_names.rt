@@ -4,8 +4,8 @@ ghost use Rattle.i7_names.specs.Known.{known_of, with_plural};
 ghost use Rattle.i7_names.specs.PluralNames.{with_irregular, with_plurals, with_regular};
 
 use crate::number::small_number;
-use i7_claims::plural_of;
 use i7_conditions::Names;
+use i7_sentences::plural_of;
 use object_words::Strings;
 use std::alloc::{AllocError, Global};
 use world_meaning::KindNo;

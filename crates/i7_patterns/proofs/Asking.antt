@@ -19,9 +19,9 @@ use Rattle.i7_patterns.specs.Asked.{IsAsked, judged}
 use Rattle.i7_patterns.specs.AspectForms.{one_asked}
 use Rattle.i7_patterns.specs.Aspects.{AsksOne}
 use Rattle.i7_patterns.specs.PatternForms.{action_asked, action_by, anything_by, can_ask, pattern_asked}
-use Rattle.i7_patterns.specs.Patterns.{AsksAction, AsksAnything, IsPattern, any_in, behind_anything, is_in_place, pattern_is_over, pattern_of}
+use Rattle.i7_patterns.specs.Patterns.{AsksAction, AsksAnything, IsPattern, any_in, behind_anything, is_right, pattern_is_over, pattern_of}
 use Rattle.play_meaning.specs.Patterns.{Pattern}
-use Rattle.i7_patterns.specs.Places.{is_long, is_place}
+use Rattle.i7_patterns.specs.Places.{is_long, is_right_place}
 use Rattle.i7_patterns.specs.declared.asked.Asked.{Asked}
 use Rattle.i7_patterns.proofs.Described.{one_given}
 use Rattle.i7_patterns.proofs.Given.{IsGiven, IsSearched, or_given, some_of}
@@ -86,14 +86,14 @@ judged_as Means is_right over (Some x) h =
     ]
 
 pub patterns_found : (actions : List Action) (s : Scope) (words : List Word) (parents : List (Option ℕ)) (objects : List Object) (pattern : Option Pattern) (found : Asked Pattern)
-    → pattern ≡ pattern_asked actions s words → found ≡ judged (is_in_place parents objects) pattern_is_over pattern
-    → IsAsked (IsPattern actions s words) (is_in_place parents objects) pattern_is_over found
+    → pattern ≡ pattern_asked actions s words → found ≡ judged (is_right parents objects) pattern_is_over pattern
+    → IsAsked (IsPattern actions s words) (is_right parents objects) pattern_is_over found
 patterns_found actions s words parents objects pattern found e f =
-    subst (IsAsked (IsPattern actions s words) (is_in_place parents objects) pattern_is_over) (sym f)
-    (judged_as (IsPattern actions s words) (is_in_place parents objects) pattern_is_over pattern (subst (IsGiven (IsPattern actions s words)) (sym e) (pattern_given actions s words)))
+    subst (IsAsked (IsPattern actions s words) (is_right parents objects) pattern_is_over) (sym f)
+    (judged_as (IsPattern actions s words) (is_right parents objects) pattern_is_over pattern (subst (IsGiven (IsPattern actions s words)) (sym e) (pattern_given actions s words)))
 
 pub places_found : (s : Scope) (words : List Word) (parents : List (Option ℕ)) (objects : List Object) (place : Option Aspect) (found : Asked Aspect) → place ≡ one_asked s words
-    → found ≡ judged (is_place parents objects) is_long place → IsAsked (AsksOne s words) (is_place parents objects) is_long found
+    → found ≡ judged (is_right_place parents objects) is_long place → IsAsked (AsksOne s words) (is_right_place parents objects) is_long found
 places_found s words parents objects place found e f =
-    subst (IsAsked (AsksOne s words) (is_place parents objects) is_long) (sym f)
-    (judged_as (AsksOne s words) (is_place parents objects) is_long place (subst (IsGiven (AsksOne s words)) (sym e) (one_given s words)))
+    subst (IsAsked (AsksOne s words) (is_right_place parents objects) is_long) (sym f)
+    (judged_as (AsksOne s words) (is_right_place parents objects) is_long place (subst (IsGiven (AsksOne s words)) (sym e) (one_given s words)))

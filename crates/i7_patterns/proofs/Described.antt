@@ -21,7 +21,7 @@ use Rattle.i7_conditions.proofs.Cutting.{front_found}
 use Rattle.i7_conditions.proofs.Described.{meant_is_cut, same_cut}
 use Rattle.i7_conditions.proofs.Readings.{meant_once}
 use Rattle.i7_patterns.specs.AspectForms.{exactly, kind_asked, noun_asked, nothing_asked, object_asked, one_asked}
-use Rattle.i7_patterns.specs.Aspects.{AsksKind, AsksNothing, AsksNoun, AsksObject, AsksOne, is_either_or, is_something}
+use Rattle.i7_patterns.specs.Aspects.{AsksKind, AsksNothing, AsksNoun, AsksObject, AsksOne, is_own, is_something}
 use Rattle.i7_patterns.proofs.Given.{IsGiven, or_given}
 
 -- ---- objects
@@ -55,11 +55,11 @@ found_as s words Unread h = λ x asks. h (The asks.0) asks.1
 front_as : (s : Scope) (words : List Word) (front : Option Front) → IsFrontFound s (without_article words) front → IsGiven (AsksKind s words) (kind_asked front)
 front_as s words None h = λ x asks. h (asks.adjectives, asks.kind, meant_is_cut s (without_article words) asks.adjectives asks.kind asks.meant)
 front_as s words (Some front) h =
-    elim (cases_Bool (list_all is_either_or front.adjectives)) [
-      | inl all ↦ rw all (record { adjectives = front.adjectives; kind = front.kind; meant = h; either_or = all; asked = refl })
+    elim (cases_Bool (list_all is_own front.adjectives)) [
+      | inl all ↦ rw all (record { adjectives = front.adjectives; kind = front.kind; meant = h; own = all; asked = refl })
       | inr some ↦ rw some (λ x asks.
           let same = same_cut s (without_article words) front.adjectives asks.adjectives front.kind asks.kind h asks.meant in
-          let is : list_all is_either_or front.adjectives ≡ true = ap (list_all is_either_or) same.0 ∙ asks.either_or in
+          let is : list_all is_own front.adjectives ≡ true = ap (list_all is_own) same.0 ∙ asks.own in
           absurd cc)
     ]
 

@@ -1,7 +1,7 @@
 -- What words ask for is there where what names stand for is.
 use Rattle.std.proofs.Common.{◌≡◌, ℕ, ◌+◌, ◌<◌, Bool, true, false, List, [], ◌∷◌, length, take, drop, map, refl, sym, ap, ◌∙◌, subst, arith, inl, inr}
 use Rattle.std.specs.Prelude.{◌&&◌, ◌||◌, Option, Some, None, codes, if◌then◌else◌, nat_le, nat_lt}
-use Rattle.std.specs.List.{list_all}
+use Rattle.std.specs.List.{list_all, list_any}
 use Rattle.std.specs.Option.{option_or}
 use Rattle.std.proofs.lemmas.Bool.{lt-ltb, and_from, and_parts, or_parts}
 use Rattle.std.proofs.lemmas.Grind.{common_steps}
@@ -30,9 +30,9 @@ use Rattle.i7_conditions.specs.declared.mark.Mark.TheVariants as mark
 use Rattle.i7_conditions.specs.declared.meaning.Meaning.{Meaning}
 use Rattle.i7_conditions.specs.declared.meaning.Meaning.TheVariants as meaning
 use Rattle.i7_patterns.specs.Actions.{Aspects, AsksBy, AsksFirst, AsksLast, AsksPlace, Nouns}
-use Rattle.i7_patterns.specs.Aspects.{AsksKind, AsksNoun, AsksObject, AsksOne, is_either_or, is_either_or_quality}
-use Rattle.i7_patterns.specs.Patterns.{IsPattern, pattern_is_over, pattern_of}
-use Rattle.i7_patterns.specs.Places.{is_long}
+use Rattle.i7_patterns.specs.Aspects.{AsksKind, AsksNoun, AsksObject, AsksOne, is_own, is_own_quality}
+use Rattle.i7_patterns.specs.Patterns.{IsPattern, pattern_asks_value, pattern_is_over, pattern_of}
+use Rattle.i7_patterns.specs.Places.{asks_value, is_long, is_value}
 use Rattle.i7_patterns.specs.There.{AsksWhatIs, is_aspect_of, is_one_of, is_quality_of}
 
 -- ---- what is so of what is given, if something is
@@ -70,6 +70,8 @@ module _ (z : Counts) (s : Scope) (there : AreThere z s.meanings s.plurals) wher
   quality_there (meaning.Number p) is = of_none IsQuality
   quality_there (meaning.Variable v) is = of_none IsQuality
   quality_there (meaning.Scene scene) is = of_none IsQuality
+  quality_there (meaning.ValueKind kind) is = of_none IsQuality
+  quality_there (meaning.Value kind value) is = of_some IsQuality (quality.Valued kind value) tt
 
   qualities_there : (found : Option Meaning) → Holds (IsThere z) found → Holds IsQuality (in_qualities found)
   qualities_there None h = of_none IsQuality
@@ -99,12 +101,13 @@ module _ (z : Counts) (s : Scope) (there : AreThere z s.meanings s.plurals) wher
       of_if IsAdjective (is_not first) (adjective_by true (quality_named s rest)) (adjective_by false (quality_named s (first ∷ rest))) (by_there true (quality_named s rest) (named_there rest))
       (by_there false (quality_named s (first ∷ rest)) (named_there (first ∷ rest)))
 
-  quality_asked : (q : Quality) (denied : Bool) → IsQuality q → is_either_or_quality q ≡ true → is_quality_of z (denied_if denied (quality_meant q)) ≡ true
-  quality_asked (quality.Is p side) true is either = lt-ltb p z.qualities is
-  quality_asked (quality.Is p side) false is either = lt-ltb p z.qualities is
-  quality_asked (quality.Valued q value) denied is either = absurd cc
-  quality_asked quality.Visible denied is either = absurd cc
-  quality_asked quality.Touchable denied is either = absurd cc
+  quality_asked : (q : Quality) (denied : Bool) → IsQuality q → is_own_quality q ≡ true → is_value (denied_if denied (quality_meant q)) ≡ false → is_quality_of z (denied_if denied (quality_meant q)) ≡ true
+  quality_asked (quality.Is p side) true is own plain = lt-ltb p z.qualities is
+  quality_asked (quality.Is p side) false is own plain = lt-ltb p z.qualities is
+  quality_asked (quality.Valued q value) true is own plain = absurd cc
+  quality_asked (quality.Valued q value) false is own plain = absurd cc
+  quality_asked quality.Visible denied is own plain = absurd cc
+  quality_asked quality.Touchable denied is own plain = absurd cc
 
   -- ---- kinds
 
@@ -118,6 +121,8 @@ module _ (z : Counts) (s : Scope) (there : AreThere z s.meanings s.plurals) wher
   in_kind_there (meaning.Number p) is = of_none IsKind
   in_kind_there (meaning.Variable v) is = of_none IsKind
   in_kind_there (meaning.Scene scene) is = of_none IsKind
+  in_kind_there (meaning.ValueKind kind) is = of_none IsKind
+  in_kind_there (meaning.Value kind value) is = of_none IsKind
 
   in_kinds_there : (found : Option Meaning) → Holds (IsThere z) found → Holds IsKind (in_kinds found)
   in_kinds_there None h = of_none IsKind
@@ -141,22 +146,25 @@ module _ (z : Counts) (s : Scope) (there : AreThere z s.meanings s.plurals) wher
     kind_is : kind < z.kinds
     all_are : list_all (is_quality_of z) (map adjective_meant adjectives) ≡ true
 
-  cut_there : (words : List Word) (adjectives : List Adjective) (kind : ℕ) → IsMeant s words adjectives kind → list_all is_either_or adjectives ≡ true → IsCutThere adjectives kind
-  cut_there words [] kind (IsMeant.kind named) all = record { kind_is = kind_there words kind named; all_are = refl }
-  cut_there words (a ∷ others) kind (IsMeant.more n none named shortest rest) all =
-      let parts = and_parts (is_either_or a) (list_all is_either_or others) all in
-      let behind = cut_there (drop n words) others kind rest parts.1 in
+  cut_there : (words : List Word) (adjectives : List Adjective) (kind : ℕ) → IsMeant s words adjectives kind → list_all is_own adjectives ≡ true → list_any is_value (map adjective_meant adjectives) ≡ false
+      → IsCutThere adjectives kind
+  cut_there words [] kind (IsMeant.kind named) all plain = record { kind_is = kind_there words kind named; all_are = refl }
+  cut_there words (a ∷ others) kind (IsMeant.more n none named shortest rest) all plain =
+      let parts = and_parts (is_own a) (list_all is_own others) all in
+      let none_valued = or_parts (is_value (adjective_meant a)) (list_any is_value (map adjective_meant others)) plain in
+      let behind = cut_there (drop n words) others kind rest parts.1 none_valued.1 in
       record {
         kind_is = behind.kind_is;
-        all_are = and_from (is_quality_of z (adjective_meant a)) (list_all (is_quality_of z) (map adjective_meant others)) (quality_asked a.quality a.denied (adjective_there (take n words) a named) parts.0) behind.all_are;
+        all_are = and_from (is_quality_of z (adjective_meant a)) (list_all (is_quality_of z) (map adjective_meant others)) (quality_asked a.quality a.denied (adjective_there (take n words) a named) parts.0 none_valued.0) behind.all_are;
       }
 
   few : (n : ℕ) → nat_lt 9 n ≡ false → nat_le n 9 ≡ true
   few n short = grind (arith, common_steps)
 
-  kind_asked : (words : List Word) (x : Aspect) → AsksKind s words x → is_long x ≡ false → is_aspect_of z x ≡ true
-  kind_asked words x asks short =
-      let cut = cut_there (without_article words) asks.adjectives asks.kind asks.meant asks.either_or in
+  kind_asked : (words : List Word) (x : Aspect) → AsksKind s words x → is_long x ≡ false → asks_value x ≡ false → is_aspect_of z x ≡ true
+  kind_asked words x asks short plain =
+      let no_value : list_any is_value (map adjective_meant asks.adjectives) ≡ false = ap asks_value (sym asks.asked) ∙ plain in
+      let cut = cut_there (without_article words) asks.adjectives asks.kind asks.meant asks.own no_value in
       let all = map adjective_meant asks.adjectives in
       let within : is_long (OfKind asks.kind all) ≡ false = ap is_long (sym asks.asked) ∙ short in
       ap (is_aspect_of z) asks.asked
@@ -176,6 +184,8 @@ module _ (z : Counts) (s : Scope) (there : AreThere z s.meanings s.plurals) wher
   in_meaning_there (meaning.Number p) is = of_none IsMark
   in_meaning_there (meaning.Variable v) is = of_none IsMark
   in_meaning_there (meaning.Scene scene) is = of_none IsMark
+  in_meaning_there (meaning.ValueKind kind) is = of_none IsMark
+  in_meaning_there (meaning.Value kind value) is = of_none IsMark
 
   in_meanings_there : (found : Option Meaning) → Holds (IsThere z) found → Holds IsMark (in_meanings found)
   in_meanings_there None h = of_none IsMark
@@ -242,36 +252,36 @@ module _ (z : Counts) (s : Scope) (there : AreThere z s.meanings s.plurals) wher
   -- ---- nouns and places
 
   abbrev IsAspect : Aspect → Type 0
-  IsAspect x = is_long x ≡ false → is_aspect_of z x ≡ true
+  IsAspect x = is_long x ≡ false → asks_value x ≡ false → is_aspect_of z x ≡ true
 
   anything_is : (x : Aspect) → x ≡ Anything → IsAspect x
-  anything_is x e short = ap (is_aspect_of z) e
+  anything_is x e short plain = ap (is_aspect_of z) e
 
   object_asked : (words : List Word) (x : Aspect) → AsksObject s words x → IsAspect x
-  object_asked words x asks short = ap (is_aspect_of z) asks.2 ∙ lt-ltb asks.0 z.objects (object_there words asks.0 asks.1.1)
+  object_asked words x asks short plain = ap (is_aspect_of z) asks.2 ∙ lt-ltb asks.0 z.objects (object_there words asks.0 asks.1.1)
 
   one_is : (words : List Word) (x : Aspect) → AsksOne s words x → IsAspect x
-  one_is words x (inl object) short = object_asked words x object short
-  one_is words x (inr described) short = kind_asked words x described.1 short
+  one_is words x (inl object) short plain = object_asked words x object short plain
+  one_is words x (inr described) short plain = kind_asked words x described.1 short plain
 
   noun_is : (words : List Word) (x : Aspect) → AsksNoun s words x → IsAspect x
-  noun_is words x (inl nothing) short = anything_is x nothing.1 short
-  noun_is words x (inr asks) short = one_is words x asks.1 short
+  noun_is words x (inl nothing) short plain = anything_is x nothing.1 short plain
+  noun_is words x (inr asks) short plain = one_is words x asks.1 short plain
 
   place_is : (words : List Word) (x : Aspect) → AsksPlace s words x → IsAspect x
-  place_is [] x e short = anything_is x e short
-  place_is (word ∷ words) x asks short = one_is words x asks.1 short
+  place_is [] x e short plain = anything_is x e short plain
+  place_is (word ∷ words) x asks short plain = one_is words x asks.1 short plain
 
   first_is : (count : NounCount) (words : List Word) (x : Aspect) → AsksFirst s count words x → IsAspect x
-  first_is Zero words x asks short = absurd asks
-  first_is One words x (inl omitted) short = anything_is x omitted.1 short
-  first_is One words x (inr asks) short = noun_is words x asks.1 short
-  first_is Two words x asks short = noun_is words x asks short
+  first_is Zero words x asks short plain = absurd asks
+  first_is One words x (inl omitted) short plain = anything_is x omitted.1 short plain
+  first_is One words x (inr asks) short plain = noun_is words x asks.1 short plain
+  first_is Two words x asks short plain = noun_is words x asks short plain
 
   last_is : (count : NounCount) (words : List Word) (x : Aspect) → AsksLast s count words x → IsAspect x
-  last_is Zero words x asks short = absurd asks
-  last_is One words x asks short = anything_is x asks.1 short
-  last_is Two words x asks short = noun_is words x asks short
+  last_is Zero words x asks short plain = absurd asks
+  last_is One words x asks short plain = anything_is x asks.1 short plain
+  last_is Two words x asks short plain = noun_is words x asks short plain
 
   -- ---- patterns
 
@@ -291,13 +301,15 @@ module _ (z : Counts) (s : Scope) (there : AreThere z s.meanings s.plurals) wher
       record { noun = first_is Two (take n asks.0) nouns.0 around.noun; second = last_is Two around.last nouns.1 around.ends }
 
   abbrev IsAsking : ℕ → Pattern → Type 0
-  IsAsking actions p = pattern_is_over p ≡ false → AsksWhatIs z actions p
+  IsAsking actions p = pattern_is_over p ≡ false → pattern_asks_value p ≡ false → AsksWhatIs z actions p
 
   asking_what_is : (actions : ℕ) (action : Option ℕ) (x : Aspects) → is_one_of actions action ≡ true → AreNouns x.nouns → IsAspect x.place → IsAsking actions (pattern_of action x)
-  asking_what_is actions action x one nouns place within =
+  asking_what_is actions action x one nouns place within plain =
       let parts = or_parts (is_long x.nouns.0 || is_long x.nouns.1) (is_long x.place) within in
       let both_nouns = or_parts (is_long x.nouns.0) (is_long x.nouns.1) parts.0 in
-      record { action = one; noun = nouns.noun both_nouns.0; second = nouns.second both_nouns.1; place = place parts.1; scene = refl }
+      let values = or_parts (asks_value x.nouns.0 || asks_value x.nouns.1) (asks_value x.place) plain in
+      let both_values = or_parts (asks_value x.nouns.0) (asks_value x.nouns.1) values.0 in
+      record { action = one; noun = nouns.noun both_nouns.0 both_values.0; second = nouns.second both_nouns.1 both_values.1; place = place parts.1 values.1; scene = refl }
 
   pattern_is : (actions : List Action) (words : List Word) (p : Pattern) → IsPattern actions s words p → IsAsking (length actions) p
   pattern_is actions words p (inl anything) =
@@ -312,8 +324,8 @@ module _ (z : Counts) (s : Scope) (there : AreThere z s.meanings s.plurals) wher
       (nouns_by asks.action.nouns asks.action.name (take asks.asks.n words) at.nouns.n asks.aspects.nouns at.nouns.stands) (place_is (drop asks.asks.n words) asks.aspects.place at.place))
 
 pub patterns_there : (z : Counts) (actions : List Action) (s : Scope) (words : List Word) (p : Pattern) → AreThere z s.meanings s.plurals → IsPattern actions s words p → pattern_is_over p ≡ false
-    → AsksWhatIs z (length actions) p
-patterns_there z actions s words p there is within = pattern_is z s there actions words p is within
+    → pattern_asks_value p ≡ false → AsksWhatIs z (length actions) p
+patterns_there z actions s words p there is within plain = pattern_is z s there actions words p is within plain
 
-pub one_there : (z : Counts) (s : Scope) (words : List Word) (x : Aspect) → AreThere z s.meanings s.plurals → AsksOne s words x → is_long x ≡ false → is_aspect_of z x ≡ true
-one_there z s words x there asks short = one_is z s there words x asks short
+pub one_there : (z : Counts) (s : Scope) (words : List Word) (x : Aspect) → AreThere z s.meanings s.plurals → AsksOne s words x → is_long x ≡ false → asks_value x ≡ false → is_aspect_of z x ≡ true
+one_there z s words x there asks short plain = one_is z s there words x asks short plain

@@ -12,7 +12,7 @@ use Rattle.i7_conditions.specs.Words.{Word, without_article}
 use Rattle.i7_conditions.specs.declared.found.Found.{Found}
 use Rattle.i7_conditions.specs.declared.found.Found.TheVariants.{Read, TooMany, Unread}
 use Rattle.i7_conditions.specs.declared.front.Front.{Front}
-use Rattle.i7_patterns.specs.Aspects.{is_either_or, is_something}
+use Rattle.i7_patterns.specs.Aspects.{is_own, is_something}
 
 -- ---- objects
 
@@ -32,7 +32,7 @@ with_kind front = OfKind front.kind (map adjective_meant front.adjectives)
 
 abbrev pub kind_asked : Option Front → Option Aspect
 kind_asked None = None
-kind_asked (Some front) = if list_all is_either_or front.adjectives then Some (with_kind front) else None
+kind_asked (Some front) = if list_all is_own front.adjectives then Some (with_kind front) else None
 
 -- ---- both
 

@@ -25,15 +25,16 @@ is_something [] = false
 is_something (word ∷ []) = says_something word
 is_something (word ∷ other ∷ words) = false
 
--- an either-or property, which `visible` and `touchable` aren't
-abbrev pub is_either_or_quality : Quality → Bool
-is_either_or_quality (quality.Is property side) = true
-is_either_or_quality (quality.Valued q value) = false
-is_either_or_quality quality.Visible = false
-is_either_or_quality quality.Touchable = false
+-- an either-or property or a value, which `visible` and `touchable` aren't
+abbrev pub is_own_quality : Quality → Bool
+is_own_quality (quality.Is property side) = true
+is_own_quality (quality.Valued q value) = true
+is_own_quality quality.Visible = false
+is_own_quality quality.Touchable = false
 
-abbrev pub is_either_or : Adjective → Bool
-is_either_or adjective = is_either_or_quality adjective.quality
+-- what an object has by itself, whoever looks at it
+abbrev pub is_own : Adjective → Bool
+is_own adjective = is_own_quality adjective.quality
 
 -- ---- what they ask
 
@@ -45,12 +46,12 @@ AsksNothing words x = (is_something words ≡ true) × (x ≡ Anything)
 abbrev pub AsksObject : Scope → List Word → Aspect → Type 0
 AsksObject s words x = (o : ℕ) × IsNoun s words (The o) × (x ≡ Exactly o)
 
--- adjectives and then a kind, one article in front being free
+-- adjectives and then a kind, one article in front being free; where one of them is a value, this is refused (`Places`)
 pub record AsksKind (s : Scope) (words : List Word) (x : Aspect) : Type 0 where
   pub adjectives : List Adjective
   pub kind : ℕ
   pub meant : IsMeant s (without_article words) adjectives kind
-  pub either_or : list_all is_either_or adjectives ≡ true
+  pub own : list_all is_own adjectives ≡ true
   pub asked : x ≡ OfKind kind (map adjective_meant adjectives)
 
 -- an object goes before a description

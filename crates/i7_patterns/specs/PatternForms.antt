@@ -12,13 +12,13 @@ use Rattle.i7_conditions.specs.Words.{Word}
 use Rattle.i7_patterns.specs.ActionForms.{aspects_asked, place_asked}
 use Rattle.i7_patterns.specs.Patterns.{any_in, behind_anything, pattern_of}
 use Rattle.i7_patterns.specs.declared.asked.Asked.{Asked}
-use Rattle.i7_patterns.specs.declared.asked.Asked.TheVariants.{Read, TooMany, Unread, WrongPlace}
+use Rattle.i7_patterns.specs.declared.asked.Asked.TheVariants.{Read, TooMany, Unread, WrongKind}
 
 -- ---- as they are kept
 
 abbrev pub with_meaning : {A B : Type 0} → (A → B) → Asked A → Asked B
 with_meaning meant (Read x) = Read (meant x)
-with_meaning meant WrongPlace = WrongPlace
+with_meaning meant WrongKind = WrongKind
 with_meaning meant TooMany = TooMany
 with_meaning meant Unread = Unread
 

@@ -1,5 +1,5 @@
 -- Which pattern words are (*Writing with Inform*, chapters 7 and 12): what a rule is about, its condition aside.
-use Rattle.std.specs.Prelude.{◌≡◌, ℕ, Bool, ◌&&◌, ◌||◌, List, [], ◌∷◌, Option, Some, None, codes, if◌then◌else◌}
+use Rattle.std.specs.Prelude.{◌≡◌, ℕ, Bool, not, ◌&&◌, ◌||◌, List, [], ◌∷◌, Option, Some, None, codes, if◌then◌else◌}
 use Rattle.std.specs.List.{slice_get}
 use Rattle.world_meaning.specs.Spelling.{is_spelled}
 use Rattle.world_meaning.specs.declared.tale.Object.{Object}
@@ -12,7 +12,7 @@ use Rattle.i7_conditions.specs.Scopes.{Scope}
 use Rattle.i7_conditions.specs.Words.{Word}
 use Rattle.i7_patterns.specs.Actions.{Aspects, AsksAt, AsksPlace}
 use Rattle.i7_patterns.specs.Lowest.{IsLowest}
-use Rattle.i7_patterns.specs.Places.{is_long, is_place}
+use Rattle.i7_patterns.specs.Places.{asks_value, is_long, is_place}
 
 -- no scene is asked for by these words
 abbrev pub pattern_of : Option ℕ → Aspects → Pattern
@@ -54,8 +54,12 @@ pub record AsksAction (actions : List Action) (s : Scope) (words : List Word) (p
 abbrev pub IsPattern : List Action → Scope → List Word → Pattern → Type 0
 IsPattern actions s words = FirstOf (AsksAnything s words) (AsksAction actions s words)
 
-abbrev pub is_in_place : List (Option ℕ) → List Object → Pattern → Bool
-is_in_place parents objects p = is_place parents objects p.place
+abbrev pub pattern_asks_value : Pattern → Bool
+pattern_asks_value p = asks_value p.noun || asks_value p.second || asks_value p.place
+
+-- the place is a room, or a description of rooms, and no value is asked for
+abbrev pub is_right : List (Option ℕ) → List Object → Pattern → Bool
+is_right parents objects p = is_place parents objects p.place && not (pattern_asks_value p)
 
 -- some aspect has more than 9 adjectives
 abbrev pub pattern_is_over : Pattern → Bool

@@ -4,7 +4,7 @@ ghost use Rattle.std.specs.List.{list_all};
 ghost use Rattle.i7_conditions.specs.Objects.{found_meant};
 ghost use Rattle.i7_conditions.specs.Scopes.{scope_of};
 ghost use Rattle.i7_patterns.specs.AspectForms.{exactly, kind_asked, noun_asked, object_asked, one_asked};
-ghost use Rattle.i7_patterns.specs.Aspects.{is_either_or, is_either_or_quality, is_something, says_something};
+ghost use Rattle.i7_patterns.specs.Aspects.{is_own, is_own_quality, is_something, says_something};
 ghost use Rattle.play_meaning.specs.Meant.{object_meant};
 ghost use Rattle.play_meaning.specs.Patterns.{aspect_meant};
 
@@ -32,23 +32,23 @@ fn is_something(words: &[TextBytes]) -> bool
     }
 }
 
-/// Whether it is an either-or property.
-fn is_either_or_quality(quality: Quality) -> bool
-    ensures { result ≡ is_either_or_quality quality }
+/// Whether it is an either-or property or a value.
+fn is_own_quality(quality: Quality) -> bool
+    ensures { result ≡ is_own_quality quality }
 {
     match quality {
-        Quality::Is(_, _) => true,
-        Quality::Valued(_, _) | Quality::Visible | Quality::Touchable => false,
+        Quality::Is(_, _) | Quality::Valued(_, _) => true,
+        Quality::Visible | Quality::Touchable => false,
     }
 }
 
-/// Whether all adjectives are either-or properties.
-fn all_either_or(adjectives: &[Adjective]) -> bool
-    ensures { result ≡ list_all is_either_or adjectives.now }
+/// Whether all adjectives are either-or properties or values.
+fn all_own(adjectives: &[Adjective]) -> bool
+    ensures { result ≡ list_all is_own adjectives.now }
 {
     adjectives
         .iter()
-        .all(|adjective| is_either_or_quality(adjective.quality))
+        .all(|adjective| is_own_quality(adjective.quality))
 }
 
 /// This object, if a name stands for it.
@@ -71,14 +71,14 @@ fn object_asked(found: Found<Referent>) -> Option<Aspect>
     }
 }
 
-/// An object of this kind with these adjectives, if all are either-or properties.
+/// An object of this kind with these adjectives, if all are either-or properties or values.
 fn kind_asked(front: Option<Front>) -> Option<Aspect>
     ensures { option_map aspect_meant result ≡ kind_asked front }
 {
     match front {
         None => None,
         Some(front) => {
-            if all_either_or(front.adjectives.as_slice()) {
+            if all_own(front.adjectives.as_slice()) {
                 Some(Aspect::OfKind(front.kind, front.adjectives))
             } else {
                 None

@@ -12,7 +12,7 @@ use Rattle.play_meaning.specs.Meant.{by_operator}
 use Rattle.play_meaning.specs.Trees as tree
 use Rattle.play_meaning.specs.declared.tree.number.Operator.{Operator}
 use Rattle.play_meaning.specs.declared.tree.number.Operator.TheVariants.{Minus, Plus, Times}
-use Rattle.i7_conditions.specs.Adjectives.{adjective_named}
+use Rattle.i7_conditions.specs.Adjectives.{adjective_named, quality_named}
 use Rattle.i7_conditions.specs.Joining.{number_said}
 use Rattle.i7_conditions.specs.Keys.{property_named, split_of, variable_named}
 use Rattle.i7_conditions.specs.Numbers.{CountsAs}
@@ -22,16 +22,19 @@ use Rattle.i7_conditions.specs.Readings.{FirstOf, IsFoundAs, one}
 use Rattle.i7_conditions.specs.Relations.{relation_at}
 use Rattle.i7_conditions.specs.Scopes.{Scope}
 use Rattle.i7_conditions.specs.Terms.{is_over}
+use Rattle.i7_conditions.specs.Values as value
+use Rattle.i7_conditions.specs.Values.{SaysValue, value_said}
 use Rattle.i7_conditions.specs.Words.{Word}
 use Rattle.i7_conditions.specs.declared.found.Found.{Found}
 use Rattle.i7_conditions.specs.declared.found.Found.TheVariants.{Read, TooMany, Unread}
 use Rattle.i7_conditions.proofs.Asked.{number_found}
 use Rattle.i7_conditions.proofs.Listing.{Made, MadeAt, MadeOfTwo, none_found, one_found, or_found, some_found, two_found}
 use Rattle.i7_conditions.proofs.Predicated.{object_found}
+use Rattle.i7_conditions.proofs.Valued.{value_found}
 use Rattle.i7_phrases.specs.CellForms.{cell_said, property_by, property_said, variable_said}
 use Rattle.i7_phrases.specs.Cells.{Cell, IsCell, IsProperty, IsVariable, PropertyOf, Variable, set}
-use Rattle.i7_phrases.specs.ChangeForms.{added, adds_said, away_said, from_away, from_put, given_so, gives_said, held_so, made_so, moves_said, now_said, put_said, set_said, so_said}
-use Rattle.i7_phrases.specs.Changes.{Adds, Gives, MakesSo, Moves, Now, PutsIn, Sets, TakesAway, flag_of, is_nowhere}
+use Rattle.i7_phrases.specs.ChangeForms.{added, adds_said, away_said, from_away, from_put, from_set, from_value, given_so, gives_said, held_so, made_so, made_valued, moves_said, now_said, put_said, set_said, so_said, value_given, valued_said}
+use Rattle.i7_phrases.specs.Changes.{Adds, Gives, GivesValue, MakesSo, MakesValued, Moves, Now, PutsIn, Sets, SetsValue, TakesAway, flag_of, given, is_nowhere, value_of}
 use Rattle.i7_phrases.specs.Limits.{phrase_is_over}
 use Rattle.i7_phrases.specs.PhraseForms.{by_verb, change_said}
 use Rattle.i7_phrases.specs.Phrases.{ByVerb, Changes, is_change}
@@ -107,14 +110,33 @@ set_found : (s : Scope) (subject behind : List Word) → IsFoundAs (Sets s subje
 set_found s subject behind =
     two_found set (IsCell s subject) (CountsAs s behind) cell_is_over is_over phrase_is_over over_set (cell_said s subject) (number_said s behind) (cell_found s subject) (number_found s behind)
 
+given_found : (s : Scope) (subject behind : List Word) → IsFoundAs (GivesValue s subject behind) phrase_is_over (value_given s subject behind)
+given_found s subject behind = one_found given (SaysValue s subject behind) value.is_over phrase_is_over (λ v. refl) (value_said s subject behind) (value_found s subject behind)
+
+abbrev KindAnd : Type 0
+KindAnd = ℕ × ℕ
+
+valued_found : (s : Scope) (subject behind : List Word) (found : Option KindAnd) → value_of (quality_named s behind) ≡ found → IsFoundAs (MakesValued s subject behind) phrase_is_over (valued_said s subject found)
+valued_found s subject behind None e = none_found (value_of (quality_named s behind)) (λ (value : KindAnd). Made (made_valued value) (Means s subject)) phrase_is_over e
+valued_found s subject behind (Some value) e =
+    some_found (value_of (quality_named s behind)) (λ (value : KindAnd). Made (made_valued value) (Means s subject)) phrase_is_over value e (valued_said s subject (Some value))
+    (one_found (made_valued value) (Means s subject) is_deep phrase_is_over (λ o. refl) (object_said s subject) (object_found s subject))
+
+values_found : (s : Scope) (subject behind : List Word) → IsFoundAs (SetsValue s subject behind) phrase_is_over (from_value s subject behind)
+unfolding from_value
+values_found s subject behind =
+    or_found (GivesValue s subject behind) (MakesValued s subject behind) phrase_is_over (value_given s subject behind) (valued_said s subject (value_of (quality_named s behind))) (given_found s subject behind)
+    (valued_found s subject behind (value_of (quality_named s behind)) refl)
+
 pub now_found : (s : Scope) (subject behind : List Word) → IsFoundAs (Now s subject behind) phrase_is_over (now_said s subject behind)
 unfolding now_said
 now_found s subject behind =
-    or_found (MakesSo s subject behind) (FirstOf (PutsIn s subject behind) (FirstOf (TakesAway s subject behind) (Sets s subject behind))) phrase_is_over (so_said s subject (flag_of (adjective_named s behind)))
-    (from_put s subject behind) (so_found s subject behind (flag_of (adjective_named s behind)) refl)
-    (or_found (PutsIn s subject behind) (FirstOf (TakesAway s subject behind) (Sets s subject behind)) phrase_is_over (put_said s subject (relation_at behind)) (from_away s subject behind)
+    or_found (MakesSo s subject behind) (FirstOf (PutsIn s subject behind) (FirstOf (TakesAway s subject behind) (FirstOf (Sets s subject behind) (SetsValue s subject behind)))) phrase_is_over
+    (so_said s subject (flag_of (adjective_named s behind))) (from_put s subject behind) (so_found s subject behind (flag_of (adjective_named s behind)) refl)
+    (or_found (PutsIn s subject behind) (FirstOf (TakesAway s subject behind) (FirstOf (Sets s subject behind) (SetsValue s subject behind))) phrase_is_over (put_said s subject (relation_at behind)) (from_away s subject behind)
     (put_found s subject behind (relation_at behind) refl)
-    (or_found (TakesAway s subject behind) (Sets s subject behind) phrase_is_over (away_said s subject behind) (set_said s subject behind) (away_found s subject behind) (set_found s subject behind)))
+    (or_found (TakesAway s subject behind) (FirstOf (Sets s subject behind) (SetsValue s subject behind)) phrase_is_over (away_said s subject behind) (from_set s subject behind) (away_found s subject behind)
+    (or_found (Sets s subject behind) (SetsValue s subject behind) phrase_is_over (set_said s subject behind) (from_value s subject behind) (set_found s subject behind) (values_found s subject behind))))
 
 -- ---- the others
 

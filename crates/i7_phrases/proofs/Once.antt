@@ -9,7 +9,7 @@ use Rattle.i7_sentences.specs.declared.spoken.Spoken.TheVariants as spoken
 use Rattle.play_meaning.specs.Trees as tree
 use Rattle.play_meaning.specs.declared.tree.number.Operator.{Operator}
 use Rattle.play_meaning.specs.declared.tree.number.Operator.TheVariants.{Minus, Plus}
-use Rattle.i7_conditions.specs.Adjectives.{adjective_named}
+use Rattle.i7_conditions.specs.Adjectives.{adjective_named, quality_named}
 use Rattle.i7_conditions.specs.Conditions.{IsCondition}
 use Rattle.i7_conditions.specs.Describing.{Describes}
 use Rattle.i7_conditions.specs.Keys.{property_named, split_of, variable_named}
@@ -18,16 +18,18 @@ use Rattle.i7_conditions.specs.Objects.{Means}
 use Rattle.i7_conditions.specs.Readings.{FirstOf}
 use Rattle.i7_conditions.specs.Relations.{relation_at}
 use Rattle.i7_conditions.specs.Scopes.{Scope}
+use Rattle.i7_conditions.specs.Values.{SaysValue}
 use Rattle.i7_conditions.specs.Words.{Word}
 use Rattle.i7_conditions.proofs.Counting.{counted_once}
 use Rattle.i7_conditions.proofs.Described.{described_once}
 use Rattle.i7_conditions.proofs.Listing.{IsOnce, Made, MadeAt, MadeOfTwo, at_once, first_once, made_once, two_once}
 use Rattle.i7_conditions.proofs.Once.{condition_once}
 use Rattle.i7_conditions.proofs.Readings.{meant_once}
+use Rattle.i7_conditions.proofs.Valued.{value_once}
 use Rattle.i7_phrases.specs.Blocks.{If, Opens, OtherwiseIf, Repeat}
 use Rattle.i7_phrases.specs.Cells.{Cell, IsCell, IsProperty, IsVariable, PropertyOf, Variable, set}
-use Rattle.i7_phrases.specs.ChangeForms.{added, given_so, held_so, made_so}
-use Rattle.i7_phrases.specs.Changes.{Adds, Gives, MakesSo, Now, PutsIn, Sets, TakesAway, flag_of}
+use Rattle.i7_phrases.specs.ChangeForms.{added, given_so, held_so, made_so, made_valued}
+use Rattle.i7_phrases.specs.Changes.{Adds, Gives, GivesValue, MakesSo, MakesValued, Now, PutsIn, Sets, SetsValue, TakesAway, flag_of, given, value_of}
 use Rattle.i7_phrases.specs.Phrases.{ByVerb, Changes}
 
 abbrev Around : Type 0
@@ -45,15 +47,20 @@ cell_once s words =
     (λ parts. at_once (property_named s parts.0) (λ (p : ℕ). Made (PropertyOf p) (Means s parts.1)) (λ p. made_once (PropertyOf p) (Means s parts.1) (meant_once s parts.1))))
     (at_once (variable_named s words) (λ (v : ℕ) (cell : Cell). cell ≡ Variable v) (λ v c d e f. e ∙ sym f))
 
+values_once : (s : Scope) (subject behind : List Word) → IsOnce (SetsValue s subject behind)
+values_once s subject behind =
+    first_once (GivesValue s subject behind) (MakesValued s subject behind) (made_once given (SaysValue s subject behind) (value_once s subject behind))
+    (at_once (value_of (quality_named s behind)) (λ (value : ℕ × ℕ). Made (made_valued value) (Means s subject)) (λ value. made_once (made_valued value) (Means s subject) (meant_once s subject)))
+
 now_once : (s : Scope) (subject behind : List Word) → IsOnce (Now s subject behind)
 now_once s subject behind =
-    first_once (MakesSo s subject behind) (FirstOf (PutsIn s subject behind) (FirstOf (TakesAway s subject behind) (Sets s subject behind)))
+    first_once (MakesSo s subject behind) (FirstOf (PutsIn s subject behind) (FirstOf (TakesAway s subject behind) (FirstOf (Sets s subject behind) (SetsValue s subject behind))))
     (at_once (flag_of (adjective_named s behind)) (λ (flag : ℕ × Bool). Made (made_so flag) (Means s subject)) (λ flag. made_once (made_so flag) (Means s subject) (meant_once s subject)))
-    (first_once (PutsIn s subject behind) (FirstOf (TakesAway s subject behind) (Sets s subject behind))
+    (first_once (PutsIn s subject behind) (FirstOf (TakesAway s subject behind) (FirstOf (Sets s subject behind) (SetsValue s subject behind)))
     (at_once (relation_at behind) (λ (place : Place). MadeOfTwo (held_so place.0) (Means s subject) (Means s place.1))
     (λ place. two_once (held_so place.0) (Means s subject) (Means s place.1) (meant_once s subject) (meant_once s place.1)))
-    (first_once (TakesAway s subject behind) (Sets s subject behind) (λ p q a b. made_once tree.NowNowhere (Means s subject) (meant_once s subject) p q a.1 b.1)
-    (two_once set (IsCell s subject) (CountsAs s behind) (cell_once s subject) (counted_once s behind))))
+    (first_once (TakesAway s subject behind) (FirstOf (Sets s subject behind) (SetsValue s subject behind)) (λ p q a b. made_once tree.NowNowhere (Means s subject) (meant_once s subject) p q a.1 b.1)
+    (first_once (Sets s subject behind) (SetsValue s subject behind) (two_once set (IsCell s subject) (CountsAs s behind) (cell_once s subject) (counted_once s behind)) (values_once s subject behind))))
 
 gives_once : (relation : Rel) (s : Scope) (holder thing : List Word) → IsOnce (Gives relation s holder thing)
 gives_once relation s holder thing = two_once (given_so relation) (Means s holder) (Means s thing) (meant_once s holder) (meant_once s thing)

@@ -5,18 +5,19 @@ use Rattle.play_meaning.specs.Meant.{by_operator, simple_meant}
 use Rattle.play_meaning.specs.Trees as tree
 use Rattle.play_meaning.specs.declared.tree.number.Operator.{Operator}
 use Rattle.play_meaning.specs.declared.tree.phrase.Simple.{Simple}
-use Rattle.i7_conditions.specs.Adjectives.{adjective_named}
+use Rattle.i7_conditions.specs.Adjectives.{adjective_named, quality_named}
 use Rattle.i7_conditions.specs.Joining.{number_said}
 use Rattle.i7_conditions.specs.Predicates.{object_said}
 use Rattle.i7_conditions.specs.Readings.{one, or_else, two}
 use Rattle.i7_conditions.specs.Relations.{relation_at}
 use Rattle.i7_conditions.specs.Scopes.{Scope}
+use Rattle.i7_conditions.specs.Values.{value_said}
 use Rattle.i7_conditions.specs.Words.{Word}
 use Rattle.i7_conditions.specs.declared.found.Found.{Found}
 use Rattle.i7_conditions.specs.declared.found.Found.TheVariants.{Read, TooMany, Unread}
 use Rattle.i7_phrases.specs.CellForms.{cell_said}
 use Rattle.i7_phrases.specs.Cells.{Cell, read, set}
-use Rattle.i7_phrases.specs.Changes.{flag_of, is_nowhere}
+use Rattle.i7_phrases.specs.Changes.{flag_of, given, is_nowhere, value_of}
 
 abbrev pub found_simple : Found Simple → Found tree.Phrase
 found_simple (Read phrase) = Read (simple_meant phrase)
@@ -32,6 +33,9 @@ held_so relation o holder = tree.NowHeld o relation holder
 
 abbrev pub given_so : Rel → tree.Object → tree.Object → tree.Phrase
 given_so relation holder o = tree.NowHeld o relation holder
+
+abbrev pub made_valued : ℕ × ℕ → tree.Object → tree.Phrase
+made_valued value o = tree.NowValued o value.0 value.1
 
 -- what is done with what holds a number
 abbrev pub added : Operator → Cell → tree.Number → tree.Phrase
@@ -53,9 +57,22 @@ away_said s subject behind = if is_nowhere behind then one tree.NowNowhere (obje
 abbrev pub set_said : Scope → List Word → List Word → Found tree.Phrase
 set_said s subject behind = two set (cell_said s subject) (number_said s behind)
 
+abbrev pub value_given : Scope → List Word → List Word → Found tree.Phrase
+value_given s subject behind = one given (value_said s subject behind)
+
+abbrev pub valued_said : Scope → List Word → Option (ℕ × ℕ) → Found tree.Phrase
+valued_said s subject None = Unread
+valued_said s subject (Some value) = one (made_valued value) (object_said s subject)
+
 -- the forms from one of the list on
+unfoldable pub from_value : Scope → List Word → List Word → Found tree.Phrase
+from_value s subject behind = or_else (value_given s subject behind) (valued_said s subject (value_of (quality_named s behind)))
+
+abbrev pub from_set : Scope → List Word → List Word → Found tree.Phrase
+from_set s subject behind = or_else (set_said s subject behind) (from_value s subject behind)
+
 abbrev pub from_away : Scope → List Word → List Word → Found tree.Phrase
-from_away s subject behind = or_else (away_said s subject behind) (set_said s subject behind)
+from_away s subject behind = or_else (away_said s subject behind) (from_set s subject behind)
 
 abbrev pub from_put : Scope → List Word → List Word → Found tree.Phrase
 from_put s subject behind = or_else (put_said s subject (relation_at behind)) (from_away s subject behind)

@@ -10,12 +10,13 @@ use Rattle.play_meaning.specs.declared.tree.object.Quality.{Quality}
 use Rattle.play_meaning.specs.declared.tree.object.Quality.TheVariants.{Is, Touchable, Valued, Visible}
 use Rattle.play_meaning.specs.declared.tree.object.Side.{Side}
 use Rattle.play_meaning.specs.declared.tree.object.Side.TheVariants.{First, Second}
-use Rattle.i7_conditions.specs.Adjectives.{adjective_named}
+use Rattle.i7_conditions.specs.Adjectives.{adjective_named, quality_named}
 use Rattle.i7_conditions.specs.Numbers.{CountsAs}
 use Rattle.i7_conditions.specs.Objects.{Means}
 use Rattle.i7_conditions.specs.Readings.{FirstOf}
 use Rattle.i7_conditions.specs.Relations.{relation_at}
 use Rattle.i7_conditions.specs.Scopes.{Scope}
+use Rattle.i7_conditions.specs.Values.{SaysValue, Valuing}
 use Rattle.i7_conditions.specs.Words.{Word}
 use Rattle.i7_phrases.specs.Cells.{IsCell, read, set}
 
@@ -56,9 +57,30 @@ TakesAway s subject behind p = (is_nowhere behind ≡ true) × ((o : tree.Object
 abbrev pub Sets : Scope → List Word → List Word → tree.Phrase → Type 0
 Sets s subject behind p = (cell : _) × (n : tree.Number) × IsCell s subject cell × CountsAs s behind n × (p ≡ set cell n)
 
+abbrev pub given : Valuing → tree.Phrase
+given v = tree.NowValued v.object v.kind v.value
+
+-- `the KIND of OBJECT`, and a value of that kind
+abbrev pub GivesValue : Scope → List Word → List Word → tree.Phrase → Type 0
+GivesValue s subject behind p = (v : Valuing) × SaysValue s subject behind v × (p ≡ given v)
+
+-- the kind of value and the value, if words name one
+abbrev pub value_of : Option Quality → Option (ℕ × ℕ)
+value_of None = None
+value_of (Some (Valued q value)) = Some (q, value)
+value_of (Some _) = None
+
+-- a value's name, without an article and without a `not`
+abbrev pub MakesValued : Scope → List Word → List Word → tree.Phrase → Type 0
+MakesValued s subject behind p =
+    (value : ℕ × ℕ) × (value_of (quality_named s behind) ≡ Some value) × ((o : tree.Object) × Means s subject o × (p ≡ tree.NowValued o value.0 value.1))
+
+abbrev pub SetsValue : Scope → List Word → List Word → tree.Phrase → Type 0
+SetsValue s subject behind = FirstOf (GivesValue s subject behind) (MakesValued s subject behind)
+
 -- what `now SUBJECT is ..` does
 abbrev pub Now : Scope → List Word → List Word → tree.Phrase → Type 0
-Now s subject behind = FirstOf (MakesSo s subject behind) (FirstOf (PutsIn s subject behind) (FirstOf (TakesAway s subject behind) (Sets s subject behind)))
+Now s subject behind = FirstOf (MakesSo s subject behind) (FirstOf (PutsIn s subject behind) (FirstOf (TakesAway s subject behind) (FirstOf (Sets s subject behind) (SetsValue s subject behind))))
 
 -- ---- the others
 

@@ -1,5 +1,5 @@
 -- What a substitution says, by its words: one form after the other is tried.
-use Rattle.std.specs.Prelude.{List, Option, None, Some, codes}
+use Rattle.std.specs.Prelude.{ℕ, List, Option, None, Some, codes}
 use Rattle.play_meaning.specs.Meant.{description_meant, number_meant, object_meant}
 use Rattle.play_meaning.specs.declared.tree.said.Piece.{Piece as Kept}
 use Rattle.play_meaning.specs.declared.tree.said.Piece.TheVariants as kept
@@ -8,6 +8,7 @@ use Rattle.i7_conditions.specs.Joining.{number_said}
 use Rattle.i7_conditions.specs.Predicates.{object_said}
 use Rattle.i7_conditions.specs.Readings.{one, or_else}
 use Rattle.i7_conditions.specs.Scopes.{Scope}
+use Rattle.i7_conditions.specs.Values.{kind_and_object}
 use Rattle.i7_conditions.specs.Words.{Word}
 use Rattle.i7_conditions.specs.declared.found.Found.{Found}
 use Rattle.i7_conditions.specs.declared.found.Found.TheVariants.{Read, TooMany, Unread}
@@ -28,9 +29,16 @@ abbrev pub description_by : Scope → Option (List Word) → Found Piece
 description_by s None = Unread
 description_by s (Some words) = one DescriptionOf (object_said s words)
 
+abbrev pub value_name_by : Scope → Option (ℕ × List Word) → Found Piece
+value_name_by s None = Unread
+value_name_by s (Some parts) = one (ValueName parts.0) (object_said s parts.1)
+
 -- the forms from one of the list on
+abbrev pub from_description : Scope → List Word → Found Piece
+from_description s words = or_else (description_by s (behind_of (codes "description") words)) (value_name_by s (kind_and_object s words))
+
 abbrev pub from_listing : Scope → List Word → Found Piece
-from_listing s words = or_else (listing_said s (listing_in words)) (description_by s (behind_of (codes "description") words))
+from_listing s words = or_else (listing_said s (listing_in words)) (from_description s words)
 
 abbrev pub from_name : Scope → List Word → Found Piece
 from_name s words = or_else (name_said s (telling_in words)) (from_listing s words)

@@ -12,6 +12,7 @@ use Rattle.i7_conditions.specs.Predicates.{is_deep, is_long}
 use Rattle.i7_conditions.specs.Readings.{FirstOf}
 use Rattle.i7_conditions.specs.Scopes.{Scope}
 use Rattle.i7_conditions.specs.Terms.{is_over}
+use Rattle.i7_conditions.specs.Values.{kind_and_object}
 use Rattle.i7_conditions.specs.Words.{Word}
 
 -- what a text says outside its ifs
@@ -23,6 +24,7 @@ pub data Piece : Type 0 where
   -- the names of the objects that a description means
   Listing : Naming → tree.Description → Piece
   DescriptionOf : tree.Object → Piece
+  -- the name of an object's value of a kind of value
   ValueName : ℕ → tree.Object → Piece
 
 -- more than 9 adjectives, or more than 8 `from`s within one another
@@ -101,5 +103,9 @@ IsListing s words piece = (t : Telling) × (listing_in words ≡ Some t) × ((d 
 abbrev pub IsDescription : Scope → List Word → Piece → Type 0
 IsDescription s words piece = (rest : List Word) × (behind_of (codes "description") words ≡ Some rest) × ((o : tree.Object) × Means s rest o × (piece ≡ DescriptionOf o))
 
+-- `KIND of O`, one article in front being free
+abbrev pub IsValueName : Scope → List Word → Piece → Type 0
+IsValueName s words piece = (parts : ℕ × List Word) × (kind_and_object s words ≡ Some parts) × ((o : tree.Object) × Means s parts.1 o × (piece ≡ ValueName parts.0 o))
+
 unfoldable pub Substitutes : Scope → List Word → Piece → Type 0
-Substitutes s words = FirstOf (IsFigure s words) (FirstOf (IsName s words) (FirstOf (IsListing s words) (IsDescription s words)))
+Substitutes s words = FirstOf (IsFigure s words) (FirstOf (IsName s words) (FirstOf (IsListing s words) (FirstOf (IsDescription s words) (IsValueName s words))))

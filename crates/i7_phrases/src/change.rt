@@ -9,11 +9,12 @@ ghost use Rattle.i7_conditions.specs.Relations.{relation_at};
 ghost use Rattle.i7_conditions.specs.Scopes.{scope_of};
 ghost use Rattle.i7_phrases.specs.CellForms.{cell_said, found_cell};
 ghost use Rattle.i7_phrases.specs.Cells.{set};
-ghost use Rattle.i7_phrases.specs.ChangeForms.{away_said, found_simple, from_away, from_put, held_so, made_so, now_said, put_said, set_said, so_said};
+ghost use Rattle.i7_phrases.specs.ChangeForms.{away_said, found_simple, from_away, from_put, from_set, from_value, held_so, made_so, now_said, put_said, set_said, so_said};
 ghost use Rattle.i7_phrases.specs.Changes.{flag_in, flag_of, is_nowhere, value_by};
 ghost use Rattle.play_meaning.specs.Trees as tree;
 
 use crate::cell::{Cell, cell_said, set};
+use crate::valued::from_value;
 use i7_conditions::{Found, Scope, adjective_named, number_said, object_said, relation_at};
 use play_meaning::tree::{Adjective, Number, Quality, Referent, Side, Simple};
 use std::alloc::{AllocError, Global};
@@ -182,6 +183,22 @@ fn set_said(
     Ok(set_so(cell, number))
 }
 
+/// The forms of `now` from numbers on.
+fn from_set(
+    alloc: Global,
+    scope: &Scope<'_>,
+    subject: &[TextBytes],
+    behind: &[TextBytes],
+) -> Result<Found<Simple>, AllocError>
+    requires few { length (scope_of scope.now).repeats ≤ 255 }
+    ensures { IfOk result (λ found. found_simple found ≡ from_set (scope_of scope.now) subject.now behind.now) }
+{
+    match set_said(alloc, scope, subject, behind)? {
+        Found::Unread => Ok(from_value(alloc, scope, subject, behind)?),
+        found => Ok(found),
+    }
+}
+
 /// The forms of `now` from `nowhere` on.
 fn from_away(
     alloc: Global,
@@ -193,7 +210,7 @@ fn from_away(
     ensures { IfOk result (λ found. found_simple found ≡ from_away (scope_of scope.now) subject.now behind.now) }
 {
     match away_said(alloc, scope, subject, behind)? {
-        Found::Unread => Ok(set_said(alloc, scope, subject, behind)?),
+        Found::Unread => Ok(from_set(alloc, scope, subject, behind)?),
         found => Ok(found),
     }
 }

@@ -11,6 +11,7 @@ mod moving;
 mod phrase;
 mod substitution;
 mod text;
+mod valued;
 
 pub use around::{Around, open_repeats_stand_around};
 pub use block::{block_of, one_block_is_opened};

@@ -1,15 +1,16 @@
 //! What substitutions of a text say (*Writing with Inform*, chapter 5): `[the score]`, `[The noun]`, `[a list of open
-//! containers]`, `[description of the box]`.
+//! containers]`, `[description of the box]`, `[colour of the ball]`.
 ghost use Rattle.std.specs.Prelude.{◌≡◌, ◌≤◌, codes, length, option_map, IfOk};
 ghost use Rattle.i7_conditions.specs.Descriptions.{found_described};
 ghost use Rattle.i7_conditions.specs.Joining.{found_number};
 ghost use Rattle.i7_conditions.specs.Objects.{found_meant};
 ghost use Rattle.i7_conditions.specs.Readings.{IsFoundAs, one};
 ghost use Rattle.i7_conditions.specs.Scopes.{scope_of};
-ghost use Rattle.i7_phrases.specs.SubstitutionForms.{description_by, figure_said, found_piece, from_listing, from_name, listing_said, name_said, substitution_said};
-ghost use Rattle.i7_phrases.specs.Substitutions.{DescriptionOf as IsDescriptionOf, Figure as IsFigure, Listing as IsListing, Name as IsName, Piece as Meant, Substitutes, begins_with_article, behind_of, is_capital, listed_by, listing_in, naming_of, piece_is_over, telling_in, told_behind, told_by};
+ghost use Rattle.i7_conditions.specs.Values.{kind_and_object};
+ghost use Rattle.i7_phrases.specs.SubstitutionForms.{description_by, figure_said, found_piece, from_description, from_listing, from_name, listing_said, name_said, substitution_said, value_name_by};
+ghost use Rattle.i7_phrases.specs.Substitutions.{DescriptionOf as IsDescriptionOf, Figure as IsFigure, Listing as IsListing, Name as IsName, Piece as Meant, Substitutes, ValueName as IsValueName, begins_with_article, behind_of, is_capital, listed_by, listing_in, naming_of, piece_is_over, telling_in, told_behind, told_by};
 
-use i7_conditions::{Found, Scope, description_said, number_said, object_said};
+use i7_conditions::{Found, Scope, description_said, kind_and_object, number_said, object_said};
 use play_meaning::Naming;
 use play_meaning::tree::{Description, Number, Piece, Referent};
 use std::alloc::{AllocError, Global};
@@ -170,6 +171,17 @@ fn description(object: Found<Referent>) -> Found<Piece>
     }
 }
 
+/// The name of an object's value.
+fn value_name(kind: u8, object: Found<Referent>) -> Found<Piece>
+    ensures { found_piece result ≡ one (IsValueName kind) (found_meant object) }
+{
+    match object {
+        Found::Read(object) => Found::Read(Piece::ValueName(kind, object)),
+        Found::TooMany => Found::TooMany,
+        Found::Unread => Found::Unread,
+    }
+}
+
 /// `O`, `the O`, `The O`, `a O` or `A O`.
 fn name_said(
     alloc: Global,
@@ -224,7 +236,40 @@ fn description_by(
     }
 }
 
-/// A list, or else an object's description.
+/// `KIND of O` or `the KIND of O`.
+fn value_name_by(
+    alloc: Global,
+    scope: &Scope<'_>,
+    words: &[TextBytes],
+) -> Result<Found<Piece>, AllocError>
+    requires few { length (scope_of scope.now).repeats ≤ 255 }
+    ensures { IfOk result (λ found. found_piece found ≡ value_name_by (scope_of scope.now) (kind_and_object (scope_of scope.now) words.now)) }
+{
+    match kind_and_object(alloc, scope, words)? {
+        None => Ok(Found::Unread),
+        Some((kind, rest)) => {
+            let object = object_said(alloc, scope, rest)?;
+            Ok(value_name(kind, object))
+        }
+    }
+}
+
+/// An object's description, or else the name of its value.
+fn from_description(
+    alloc: Global,
+    scope: &Scope<'_>,
+    words: &[TextBytes],
+) -> Result<Found<Piece>, AllocError>
+    requires few { length (scope_of scope.now).repeats ≤ 255 }
+    ensures { IfOk result (λ found. found_piece found ≡ from_description (scope_of scope.now) words.now) }
+{
+    match description_by(alloc, scope, words)? {
+        Found::Unread => Ok(value_name_by(alloc, scope, words)?),
+        found => Ok(found),
+    }
+}
+
+/// A list, or else an object's description or the name of its value.
 fn from_listing(
     alloc: Global,
     scope: &Scope<'_>,
@@ -234,7 +279,7 @@ fn from_listing(
     ensures { IfOk result (λ found. found_piece found ≡ from_listing (scope_of scope.now) words.now) }
 {
     match listing_said(alloc, scope, words)? {
-        Found::Unread => Ok(description_by(alloc, scope, words)?),
+        Found::Unread => Ok(from_description(alloc, scope, words)?),
         found => Ok(found),
     }
 }

@@ -21,8 +21,8 @@ use Rattle.i7_conditions.proofs.Listing.{one_found}
 use Rattle.i7_patterns.specs.Asked.{IsAsked as IsFound}
 use Rattle.i7_patterns.specs.Patterns.{pattern_is_over}
 use Rattle.i7_patterns.specs.declared.asked.Asked.{Asked}
-use Rattle.i7_patterns.specs.declared.asked.Asked.TheVariants.{Read, TooMany, Unread, WrongPlace}
-use Rattle.i7_rules.specs.Abouts.{IsAbout, IsGiven, is_in_rooms}
+use Rattle.i7_patterns.specs.declared.asked.Asked.TheVariants.{Read, TooMany, Unread, WrongKind}
+use Rattle.i7_rules.specs.Abouts.{IsAbout, IsGiven, is_right_for}
 use Rattle.i7_rules.specs.Bodies.{AreUnderstood, IsBodyRead}
 use Rattle.i7_rules.specs.Heads.{AsksSo, Head, IsAsked, IsBook, IsHead, IsOfScene, asked_head, head_is_over, head_is_right, head_of, headed, is_asked_over, numbered}
 use Rattle.i7_rules.specs.Knowns.{Known, scope_among}
@@ -98,22 +98,22 @@ module _ (k : Known) (rule : Rule) (book : ℕ) (is : IsBook k rule.book book) w
   heads : (about : Pattern) (condition : Option Condition) → IsAbout k rule about → IsAsked k rule.condition condition → IsHead k rule (head_of book about condition)
   heads about condition a c = record { book = is; about = a; condition = c; listed = refl }
 
-  headed_so : (about : Asked Pattern) (asked : Found (Option Condition)) → IsFound (IsAbout k rule) (is_in_rooms k) pattern_is_over about → IsFoundAs (IsAsked k rule.condition) is_asked_over asked
+  headed_so : (about : Asked Pattern) (asked : Found (Option Condition)) → IsFound (IsAbout k rule) (is_right_for k) pattern_is_over about → IsFoundAs (IsAsked k rule.condition) is_asked_over asked
       → IsFound (IsHead k rule) (head_is_right k) head_is_over (headed book about asked)
   headed_so (Read p) (sought.Read c) a h = (heads p c a.0 h.0, a.1, or_from (pattern_is_over p) (is_asked_over c) a.2 h.1)
-  headed_so WrongPlace (sought.Read c) a h = (head_of book a.0 c, heads a.0 c a.1 h.0, a.2)
+  headed_so WrongKind (sought.Read c) a h = (head_of book a.0 c, heads a.0 c a.1 h.0, a.2)
   headed_so TooMany (sought.Read c) a h = (head_of book a.0 c, heads a.0 c a.1 h.0, a.2, or_left (pattern_is_over a.0) (is_asked_over c) a.3)
   headed_so Unread (sought.Read c) a h = λ head heads. a head.about heads.about
   headed_so (Read p) sought.TooMany a h = (head_of book p h.0, heads p h.0 a.0 h.1, a.1, or_right (pattern_is_over p) (is_asked_over h.0) h.2)
-  headed_so WrongPlace sought.TooMany a h = (head_of book a.0 h.0, heads a.0 h.0 a.1 h.1, a.2)
+  headed_so WrongKind sought.TooMany a h = (head_of book a.0 h.0, heads a.0 h.0 a.1 h.1, a.2)
   headed_so TooMany sought.TooMany a h = (head_of book a.0 h.0, heads a.0 h.0 a.1 h.1, a.2, or_right (pattern_is_over a.0) (is_asked_over h.0) h.2)
   headed_so Unread sought.TooMany a h = λ head heads. a head.about heads.about
   headed_so (Read p) sought.Unread a h = λ head heads. h head.condition heads.condition
-  headed_so WrongPlace sought.Unread a h = λ head heads. h head.condition heads.condition
+  headed_so WrongKind sought.Unread a h = λ head heads. h head.condition heads.condition
   headed_so TooMany sought.Unread a h = λ head heads. h head.condition heads.condition
   headed_so Unread sought.Unread a h = λ head heads. h head.condition heads.condition
 
-pub head_found : (k : Known) (rule : Rule) (book : ℕ) (about : Asked Pattern) (asked : Found (Option Condition)) (head : Asked Head) → IsFound (IsAbout k rule) (is_in_rooms k) pattern_is_over about
+pub head_found : (k : Known) (rule : Rule) (book : ℕ) (about : Asked Pattern) (asked : Found (Option Condition)) (head : Asked Head) → IsFound (IsAbout k rule) (is_right_for k) pattern_is_over about
     → IsFoundAs (IsAsked k rule.condition) is_asked_over asked → head ≡ headed book about asked → IsBook k rule.book book → IsFound (IsHead k rule) (head_is_right k) head_is_over head
 head_found k rule book about asked head a h e is = subst (IsFound (IsHead k rule) (head_is_right k) head_is_over) (sym e) (headed_so k rule book is about asked a h)
 
@@ -128,10 +128,10 @@ all_said k rule body.Unnested h known = all_understood k (reverse rule.body) (re
 joins : (k : Known) (line : ℕ) (rule : Rule) (head : Asked Kept) (read : BodyRead) → IsFound (IsHead k rule) (head_is_right k) head_is_over (asked_head head) → IsBodyRead k rule.body read
     → IsRuleFound k line rule (joined line head read)
 joins k line rule Unread read h b = inl (h, refl)
-joins k line rule WrongPlace (body.Says phrases) h b = (all_said k rule (body.Says phrases) b (λ l e. cc), h)
-joins k line rule WrongPlace (body.Unknown at) h b = inr ((h.0, h.1), b)
-joins k line rule WrongPlace (body.TooMany at) h b = (b.0, h)
-joins k line rule WrongPlace body.Unnested h b = (all_said k rule body.Unnested b (λ l e. cc), h)
+joins k line rule WrongKind (body.Says phrases) h b = (all_said k rule (body.Says phrases) b (λ l e. cc), h)
+joins k line rule WrongKind (body.Unknown at) h b = inr ((h.0, h.1), b)
+joins k line rule WrongKind (body.TooMany at) h b = (b.0, h)
+joins k line rule WrongKind body.Unnested h b = (all_said k rule body.Unnested b (λ l e. cc), h)
 joins k line rule TooMany (body.Says phrases) h b = (all_said k rule (body.Says phrases) b (λ l e. cc), inl (h, refl))
 joins k line rule TooMany (body.Unknown at) h b = inr ((h.0, h.1), b)
 joins k line rule TooMany (body.TooMany at) h b = (b.0, inl (h, refl))

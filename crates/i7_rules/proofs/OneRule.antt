@@ -90,7 +90,7 @@ unnested_known k line rule is =
     let none : IsNoBody k rule.body = is.1 in
     ((is.0.0, fine.0), all_understood k (reverse rule.body) (reverse none.0) none.1)
 
-misplaced_known : (k : Known) (line : ℕ) (rule : Rule) → IsRuleFound k line rule found.WrongPlace → IsKnown k rule
+misplaced_known : (k : Known) (line : ℕ) (rule : Rule) → IsRuleFound k line rule found.WrongKind → IsKnown k rule
 misplaced_known k line rule is = let wrong : IsMisplaced k rule = is.1 in ((wrong.0, wrong.1), is.0)
 
 over_known : (k : Known) (line at : ℕ) (rule : Rule) → IsRuleFound k line rule (found.TooMany at) → IsKnown k rule
@@ -181,13 +181,13 @@ module _ (laws : AreOnce) where
 
   -- ---- a place that is no room
 
-  within_or_misplaced : (k : Known) (line : ℕ) (rule : Rule) (head : Head) → IsWithin k rule head → IsRuleFound k line rule found.WrongPlace → ⊥
+  within_or_misplaced : (k : Known) (line : ℕ) (rule : Rule) (head : Head) → IsWithin k rule head → IsRuleFound k line rule found.WrongKind → ⊥
   within_or_misplaced k line rule head fine wrong = not_misplaced laws k rule head fine.0 fine.1 wrong.1
 
-  unnested_or_misplaced : (k : Known) (line : ℕ) (rule : Rule) → IsRuleFound k line rule found.Unnested → IsRuleFound k line rule found.WrongPlace → ⊥
+  unnested_or_misplaced : (k : Known) (line : ℕ) (rule : Rule) → IsRuleFound k line rule found.Unnested → IsRuleFound k line rule found.WrongKind → ⊥
   unnested_or_misplaced k line rule is wrong = let has : HasHeadWithin k rule = is.0 in within_or_misplaced k line rule has.0 has.1 wrong
 
-  over_or_misplaced : (k : Known) (line at : ℕ) (rule : Rule) → IsRuleFound k line rule (found.TooMany at) → IsRuleFound k line rule found.WrongPlace → ⊥
+  over_or_misplaced : (k : Known) (line at : ℕ) (rule : Rule) → IsRuleFound k line rule (found.TooMany at) → IsRuleFound k line rule found.WrongKind → ⊥
   over_or_misplaced k line at rule over wrong = elim over.1 [
     | inl here ↦ let its : IsOver k rule = here.0 in not_misplaced laws k rule its.0 its.1 its.2 wrong.1
     | inr later ↦ let has : HasHeadWithin k rule = later.0 in within_or_misplaced k line rule has.0 has.1 wrong
@@ -196,26 +196,26 @@ module _ (laws : AreOnce) where
   pub one_told : (k : Known) (line : ℕ) (rule : Rule) (a b : RuleFound) → IsRuleFound k line rule a → IsRuleFound k line rule b → fault_in line a ≡ fault_in line b
   one_told k line rule (found.Says m) (found.Says n) one other = refl
   one_told k line rule (found.Says m) (found.Unknown b) one other = absurd (known_or_not k line b rule (says_known k line rule m one) other)
-  one_told k line rule (found.Says m) found.WrongPlace one other = absurd (within_or_misplaced k line rule (heading m.head) one.0 other)
+  one_told k line rule (found.Says m) found.WrongKind one other = absurd (within_or_misplaced k line rule (heading m.head) one.0 other)
   one_told k line rule (found.Says m) (found.TooMany b) one other = absurd (says_or_over k line b rule m one other)
   one_told k line rule (found.Says m) found.Unnested one other = absurd (nested_or_not k rule.body (body_meant m.body.items) one.1 other.1)
   one_told k line rule (found.Unknown a) (found.Says n) one other = absurd (known_or_not k line a rule (says_known k line rule n other) one)
   one_told k line rule (found.Unknown a) (found.Unknown b) one other = ap (fault_at code.UnknownName) (unknown_at_once k line a b rule one other)
-  one_told k line rule (found.Unknown a) found.WrongPlace one other = absurd (known_or_not k line a rule (misplaced_known k line rule other) one)
+  one_told k line rule (found.Unknown a) found.WrongKind one other = absurd (known_or_not k line a rule (misplaced_known k line rule other) one)
   one_told k line rule (found.Unknown a) (found.TooMany b) one other = absurd (known_or_not k line a rule (over_known k line b rule other) one)
   one_told k line rule (found.Unknown a) found.Unnested one other = absurd (known_or_not k line a rule (unnested_known k line rule other) one)
-  one_told k line rule found.WrongPlace (found.Says n) one other = absurd (within_or_misplaced k line rule (heading n.head) other.0 one)
-  one_told k line rule found.WrongPlace (found.Unknown b) one other = absurd (known_or_not k line b rule (misplaced_known k line rule one) other)
-  one_told k line rule found.WrongPlace found.WrongPlace one other = refl
-  one_told k line rule found.WrongPlace (found.TooMany b) one other = absurd (over_or_misplaced k line b rule other one)
-  one_told k line rule found.WrongPlace found.Unnested one other = absurd (unnested_or_misplaced k line rule other one)
+  one_told k line rule found.WrongKind (found.Says n) one other = absurd (within_or_misplaced k line rule (heading n.head) other.0 one)
+  one_told k line rule found.WrongKind (found.Unknown b) one other = absurd (known_or_not k line b rule (misplaced_known k line rule one) other)
+  one_told k line rule found.WrongKind found.WrongKind one other = refl
+  one_told k line rule found.WrongKind (found.TooMany b) one other = absurd (over_or_misplaced k line b rule other one)
+  one_told k line rule found.WrongKind found.Unnested one other = absurd (unnested_or_misplaced k line rule other one)
   one_told k line rule (found.TooMany a) (found.Says n) one other = absurd (says_or_over k line a rule n other one)
   one_told k line rule (found.TooMany a) (found.Unknown b) one other = absurd (known_or_not k line b rule (over_known k line a rule one) other)
-  one_told k line rule (found.TooMany a) found.WrongPlace one other = absurd (over_or_misplaced k line a rule one other)
+  one_told k line rule (found.TooMany a) found.WrongKind one other = absurd (over_or_misplaced k line a rule one other)
   one_told k line rule (found.TooMany a) (found.TooMany b) one other = ap (fault_at code.TooMany) (over_at_once k line a b rule one other)
   one_told k line rule (found.TooMany a) found.Unnested one other = absurd (unnested_or_over k line a rule other one)
   one_told k line rule found.Unnested (found.Says n) one other = absurd (nested_or_not k rule.body (body_meant n.body.items) other.1 one.1)
   one_told k line rule found.Unnested (found.Unknown b) one other = absurd (known_or_not k line b rule (unnested_known k line rule one) other)
-  one_told k line rule found.Unnested found.WrongPlace one other = absurd (unnested_or_misplaced k line rule one other)
+  one_told k line rule found.Unnested found.WrongKind one other = absurd (unnested_or_misplaced k line rule one other)
   one_told k line rule found.Unnested (found.TooMany b) one other = absurd (unnested_or_over k line b rule one other)
   one_told k line rule found.Unnested found.Unnested one other = refl

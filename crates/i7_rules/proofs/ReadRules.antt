@@ -58,7 +58,7 @@ module _ (law : IsOneTold) (k : Known) (r : RuleAt) (before : List RuleAt) where
   not_unknown f is never line bad = never line (same_fault f (found.Unknown line) is bad)
 
   not_misplaced : (f : RuleFound) → IsFound k r f → (fault_in r.line f ≡ fault_at code.WrongKind r.line → ⊥) → (line : ℕ) → IsMisplaced k here line → ⊥
-  not_misplaced f is never line bad = never (same_fault f found.WrongPlace is bad.0)
+  not_misplaced f is never line bad = never (same_fault f found.WrongKind is bad.0)
 
   not_over : (f : RuleFound) → IsFound k r f → ((line : ℕ) → fault_in r.line f ≡ fault_at code.TooMany line → ⊥) → (line : ℕ) → HoldsTooMuch k here line → ⊥
   not_over f is never line bad = never line (same_fault f (found.TooMany line) is bad)
@@ -81,11 +81,11 @@ module _ (law : IsOneTold) (k : Known) (r : RuleAt) (before : List RuleAt) where
     unnested = low_past (IsUnnested k) here (placed before) state.unnested (not_unnested (found.Unknown at) is (λ e. let same = same_code code.UnknownName code.NotUnderstood at r.line e in let no : ⊥ = cc in no)) so.unnested;
     told = λ known in_rooms within nested. absurd (not_none state.unknown at known);
   }
-  rule_further found.WrongPlace state is so = record {
-    unknown = low_past (IsUnknown k) here (placed before) state.unknown (not_unknown found.WrongPlace is (λ line e. let same = same_code code.WrongKind code.UnknownName r.line line e in let no : ⊥ = cc in no)) so.unknown;
+  rule_further found.WrongKind state is so = record {
+    unknown = low_past (IsUnknown k) here (placed before) state.unknown (not_unknown found.WrongKind is (λ line e. let same = same_code code.WrongKind code.UnknownName r.line line e in let no : ⊥ = cc in no)) so.unknown;
     misplaced = low_with (IsMisplaced k) here (placed before) state.misplaced r.line (record { is = (is, refl); alone = λ line bad. sym bad.1 }) so.misplaced;
-    too_many = low_past (HoldsTooMuch k) here (placed before) state.too_many (not_over found.WrongPlace is (λ line e. let same = same_code code.WrongKind code.TooMany r.line line e in let no : ⊥ = cc in no)) so.too_many;
-    unnested = low_past (IsUnnested k) here (placed before) state.unnested (not_unnested found.WrongPlace is (λ e. let same = same_code code.WrongKind code.NotUnderstood r.line r.line e in let no : ⊥ = cc in no)) so.unnested;
+    too_many = low_past (HoldsTooMuch k) here (placed before) state.too_many (not_over found.WrongKind is (λ line e. let same = same_code code.WrongKind code.TooMany r.line line e in let no : ⊥ = cc in no)) so.too_many;
+    unnested = low_past (IsUnnested k) here (placed before) state.unnested (not_unnested found.WrongKind is (λ e. let same = same_code code.WrongKind code.NotUnderstood r.line r.line e in let no : ⊥ = cc in no)) so.unnested;
     told = λ known in_rooms within nested. absurd (not_none state.misplaced r.line in_rooms);
   }
   rule_further (found.TooMany at) state is so = record {

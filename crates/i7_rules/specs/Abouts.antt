@@ -10,7 +10,7 @@ use Rattle.i7_conditions.specs.Words.{Word}
 use Rattle.i7_patterns.specs.Asked.{IsAsked}
 use Rattle.i7_patterns.specs.Aspects.{AsksOne}
 use Rattle.i7_patterns.specs.PatternForms.{with_meaning}
-use Rattle.i7_patterns.specs.Patterns.{IsPattern, is_in_place, pattern_is_over}
+use Rattle.i7_patterns.specs.Patterns.{IsPattern, is_right, pattern_is_over}
 use Rattle.i7_patterns.specs.declared.asked.Asked.{Asked}
 use Rattle.i7_patterns.specs.declared.asked.Asked.TheVariants.{Unread}
 use Rattle.i7_rules.specs.Knowns.{Known, scope_among}
@@ -52,9 +52,9 @@ during p scene = record { action = p.action; noun = p.noun; second = p.second; p
 abbrev pub IsAbout : Known → Rule → Pattern → Type 0
 IsAbout k rule about = (p : Pattern) × (scene : Option ℕ) × IsSubject k rule.subject p × Happens k rule.scene scene × (about ≡ during p scene)
 
--- the place, if one is asked for, is a room or a description of rooms
-abbrev pub is_in_rooms : Known → Pattern → Bool
-is_in_rooms k p = is_in_place k.parents k.objects p
+-- the place, if one is asked for, is a room or a description of rooms, and no value is asked for
+abbrev pub is_right_for : Known → Pattern → Bool
+is_right_for k p = is_right k.parents k.objects p
 
 -- ---- what is found of it
 
@@ -65,7 +65,7 @@ IsGiven {A} Is (Some x) = Is x
 
 -- of what these patterns are
 abbrev pub IsFound : Known → (Pattern → Type 0) → Asked Pattern → Type 0
-IsFound k Means found = IsAsked Means (is_in_rooms k) pattern_is_over found
+IsFound k Means found = IsAsked Means (is_right_for k) pattern_is_over found
 
 -- what is asked, while a scene happens, if the scene is there
 abbrev pub happening : Asked Pattern → Option (Option ℕ) → Asked Pattern

@@ -22,8 +22,8 @@ use Rattle.i7_patterns.specs.Asked.{IsAsked as IsFound}
 use Rattle.i7_patterns.specs.PatternForms.{with_meaning}
 use Rattle.i7_patterns.specs.Patterns.{pattern_is_over}
 use Rattle.i7_patterns.specs.declared.asked.Asked.{Asked}
-use Rattle.i7_patterns.specs.declared.asked.Asked.TheVariants.{Read, TooMany, Unread, WrongPlace}
-use Rattle.i7_rules.specs.Abouts.{IsAbout, IsScene, is_in_rooms}
+use Rattle.i7_patterns.specs.declared.asked.Asked.TheVariants.{Read, TooMany, Unread, WrongKind}
+use Rattle.i7_rules.specs.Abouts.{IsAbout, IsScene, is_right_for}
 use Rattle.i7_rules.specs.Knowns.{Known, scope_among}
 
 -- ---- the rulebook
@@ -90,9 +90,9 @@ abbrev pub HasNoHead : Known → Rule → Type 0
 HasNoHead k rule = (head : Head) → IsHead k rule head → ⊥
 
 abbrev pub head_is_right : Known → Head → Bool
-head_is_right k head = is_in_rooms k head.about
+head_is_right k head = is_right_for k head.about
 
--- its place is no room
+-- its place is no room, or it asks for a value
 abbrev pub IsMisplaced : Known → Rule → Type 0
 IsMisplaced k rule = (head : Head) × IsHead k rule head × (head_is_right k head ≡ false)
 
@@ -125,11 +125,11 @@ asked_head found = with_meaning heading found
 -- a head of this rulebook, by what is found of what it is about and of its condition
 abbrev pub headed : ℕ → Asked Pattern → Found (Option Condition) → Asked Head
 headed book (Read about) (sought.Read condition) = Read (head_of book about condition)
-headed book WrongPlace (sought.Read condition) = WrongPlace
+headed book WrongKind (sought.Read condition) = WrongKind
 headed book TooMany (sought.Read condition) = TooMany
 headed book Unread (sought.Read condition) = Unread
 headed book (Read about) sought.TooMany = TooMany
-headed book WrongPlace sought.TooMany = WrongPlace
+headed book WrongKind sought.TooMany = WrongKind
 headed book TooMany sought.TooMany = TooMany
 headed book Unread sought.TooMany = Unread
 headed book about sought.Unread = Unread

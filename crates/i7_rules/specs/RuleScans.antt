@@ -63,7 +63,7 @@ kept_of r meant = record { line = r.line; name = name_of r; rule = meant }
 abbrev pub with_found : State → RuleAt → RuleFound → State
 with_found state r (found.Says meant) = record state { rules = kept_of r meant ∷ state.rules }
 with_found state r (found.Unknown at) = record state { unknown = lower_of state.unknown (Some at) }
-with_found state r found.WrongPlace = record state { misplaced = lower_of state.misplaced (Some r.line) }
+with_found state r found.WrongKind = record state { misplaced = lower_of state.misplaced (Some r.line) }
 with_found state r (found.TooMany at) = record state { too_many = lower_of state.too_many (Some at) }
 with_found state r found.Unnested = record state { unnested = lower_of state.unnested (Some r.line) }
 

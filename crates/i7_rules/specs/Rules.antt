@@ -7,7 +7,7 @@ use Rattle.i7_sentences.specs.declared.rule.Rule.{Rule}
 use Rattle.play_meaning.specs.Meant.{body_meant}
 use Rattle.play_meaning.specs.declared.tree.rule.RuleHead.{RuleHead}
 use Rattle.i7_patterns.specs.declared.asked.Asked.{Asked}
-use Rattle.i7_patterns.specs.declared.asked.Asked.TheVariants.{Read, TooMany, Unread, WrongPlace}
+use Rattle.i7_patterns.specs.declared.asked.Asked.TheVariants.{Read, TooMany, Unread, WrongKind}
 use Rattle.i7_rules.specs.Bodies.{AreUnderstood, IsBodyOf, IsNoBody, IsOverAt, IsUnknownAt}
 use Rattle.i7_rules.specs.Heads.{HasHead, HasHeadWithin, HasNoHead, IsMisplaced, IsOver, IsWithin, heading}
 use Rattle.i7_rules.specs.Knowns.{Known}
@@ -19,8 +19,8 @@ use Rattle.i7_rules.specs.declared.rule.RuleFound.TheVariants as found
 -- a rule by what is found of its head and of its body
 abbrev pub joined : ℕ → Asked RuleHead → BodyRead → RuleFound
 joined line Unread body = found.Unknown line
-joined line WrongPlace (body.Unknown at) = found.Unknown at
-joined line WrongPlace _ = found.WrongPlace
+joined line WrongKind (body.Unknown at) = found.Unknown at
+joined line WrongKind _ = found.WrongKind
 joined line TooMany (body.Unknown at) = found.Unknown at
 joined line TooMany _ = found.TooMany line
 joined line (Read head) (body.Says phrases) = found.Says (record { head = head; body = phrases })
@@ -34,7 +34,7 @@ joined line (Read head) body.Unnested = found.Unnested
 abbrev pub IsRuleFound : Known → ℕ → Rule → RuleFound → Type 0
 IsRuleFound k line rule (found.Says told) = IsWithin k rule (heading told.head) × IsBodyOf k rule.body (body_meant told.body.items)
 IsRuleFound k line rule (found.Unknown at) = (HasNoHead k rule × (at ≡ line)) ⊎ (HasHead k rule × IsUnknownAt k (reverse rule.body) at)
-IsRuleFound k line rule found.WrongPlace = AreUnderstood k (reverse rule.body) × IsMisplaced k rule
+IsRuleFound k line rule found.WrongKind = AreUnderstood k (reverse rule.body) × IsMisplaced k rule
 IsRuleFound k line rule (found.TooMany at) = AreUnderstood k (reverse rule.body) × ((IsOver k rule × (at ≡ line)) ⊎ (HasHeadWithin k rule × IsOverAt k (reverse rule.body) at))
 IsRuleFound k line rule found.Unnested = HasHeadWithin k rule × IsNoBody k rule.body
 
@@ -45,6 +45,6 @@ fault_at which line = Some (record { code = which; line = line })
 abbrev pub fault_in : ℕ → RuleFound → Option Fault
 fault_in line (found.Says told) = None
 fault_in line (found.Unknown at) = fault_at code.UnknownName at
-fault_in line found.WrongPlace = fault_at code.WrongKind line
+fault_in line found.WrongKind = fault_at code.WrongKind line
 fault_in line (found.TooMany at) = fault_at code.TooMany at
 fault_in line found.Unnested = fault_at code.NotUnderstood line

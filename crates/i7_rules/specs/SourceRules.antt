@@ -32,7 +32,7 @@ IsUnknown k p line = IsFound k p.rule (found.Unknown line)
 
 -- the rule's place is no room
 abbrev pub IsMisplaced : Known → Placed → ℕ → Type 0
-IsMisplaced k p line = IsFound k p.rule found.WrongPlace × (line ≡ p.rule.line)
+IsMisplaced k p line = IsFound k p.rule found.WrongKind × (line ≡ p.rule.line)
 
 -- so many rules may be an author's: with the sixty-one standard ones they are 2,000
 unfoldable pub most_rules : ℕ

@@ -92,7 +92,7 @@ fn in_place(place: Asked<Aspect>) -> Asked<Pattern>
             place,
             scene: None,
         }),
-        Asked::WrongPlace => Asked::WrongPlace,
+        Asked::WrongKind => Asked::WrongKind,
         Asked::TooMany => Asked::TooMany,
         Asked::Unread => Asked::Unread,
     }
@@ -144,7 +144,7 @@ fn happening(found: Asked<Pattern>, scene: Option<Option<u8>>) -> Asked<Pattern>
         None => Asked::Unread,
         Some(scene) => match found {
             Asked::Read(pattern) => Asked::Read(during(pattern, scene)),
-            Asked::WrongPlace => Asked::WrongPlace,
+            Asked::WrongKind => Asked::WrongKind,
             Asked::TooMany => Asked::TooMany,
             Asked::Unread => Asked::Unread,
         },

@@ -18,8 +18,8 @@ pub enum RuleFound {
     /// The names allow no reading of what stands at this line, the first of such (C7): the head, at the rule's line, or a
     /// phrase at its own.
     Unknown(u32),
-    /// All is understood, but the place that the head asks for is no room (C8).
-    WrongPlace,
+    /// All is understood, but the place that the head asks for is no room, or the head asks for a value (C8).
+    WrongKind,
     /// All is understood, but what stands at this line, the first of such, holds more than the language allows (C12).
     TooMany(u32),
     /// The lines of its body can't be put together.
@@ -32,9 +32,9 @@ fn joined(line: u32, head: Asked<RuleHead>, body: BodyRead) -> RuleFound
 {
     match head {
         Asked::Unread => RuleFound::Unknown(line),
-        Asked::WrongPlace => match body {
+        Asked::WrongKind => match body {
             BodyRead::Unknown(at) => RuleFound::Unknown(at),
-            _ => RuleFound::WrongPlace,
+            _ => RuleFound::WrongKind,
         },
         Asked::TooMany => match body {
             BodyRead::Unknown(at) => RuleFound::Unknown(at),

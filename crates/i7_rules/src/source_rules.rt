@@ -84,7 +84,7 @@ fn with_found(
     match found {
         RuleFound::Says(meant) => next.rules.push(kept_of(alloc, rule, meant)?)?,
         RuleFound::Unknown(at) => next.unknown = lower_of(next.unknown, Some(at)),
-        RuleFound::WrongPlace => next.misplaced = lower_of(next.misplaced, Some(rule.line)),
+        RuleFound::WrongKind => next.misplaced = lower_of(next.misplaced, Some(rule.line)),
         RuleFound::TooMany(at) => next.too_many = lower_of(next.too_many, Some(at)),
         RuleFound::Unnested => next.unnested = lower_of(next.unnested, Some(rule.line)),
     }

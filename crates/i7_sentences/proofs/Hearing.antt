@@ -5,69 +5,71 @@ use Rattle.std.specs.List.{list_any}
 use Rattle.std.proofs.lemmas.Option.{same_Some}
 use Rattle.i7_lexer.specs.declared.token.Token.{Token}
 use Rattle.i7_sentences.specs.Cuts.{Piece}
-use Rattle.i7_sentences.specs.Forms.{IsReading, IsUnread, Variant, all_forms}
-use Rattle.i7_sentences.specs.Matching.{Found, lowest_fit}
+use Rattle.i7_sentences.specs.Forms.{Variant}
+use Rattle.i7_sentences.specs.Matching.{Found}
+use Rattle.i7_sentences.specs.Names.{Words}
 use Rattle.i7_sentences.specs.Read.{heard_found, heard_in, heard_of, reserved_at, reserved_in, unread_at, unread_in}
 use Rattle.i7_sentences.specs.Sources.{HasBadLiteral, HasReservedName, HoldsBadLiteral, IsUnreadAt, Says, SaysInWords}
 use Rattle.i7_sentences.specs.Stretches.{Stretch, bad_literal_in, bad_literal_of, holds_bad_literal, stretches_of}
+use Rattle.i7_sentences.specs.ValueFits.{read_with}
+use Rattle.i7_sentences.specs.ValueForms.{IsReadWith, IsUnreadWith}
 use Rattle.i7_sentences.specs.declared.heard.Heard.{Heard}
 use Rattle.i7_sentences.specs.declared.heard.Heard.TheVariants as heard
 use Rattle.i7_sentences.specs.declared.part.PartKind.{PartKind}
 use Rattle.i7_sentences.specs.declared.part.PartKind.TheVariants.{Title, Heading, Sentence as Said}
-use Rattle.i7_sentences.proofs.Choosing.{ReadAs, read_as}
 use Rattle.i7_sentences.proofs.Lowest.{Tells, lowest_tells, none-some}
-use Rattle.i7_sentences.proofs.Sameness.{never_both, reading_same}
+use Rattle.i7_sentences.proofs.ReadingWith.{ReadWith, found_with, not_both, read_same}
 
 -- the reading is what is found
-pub reading_found : (tokens : List Token) (variant : Variant) (letters : List (List Token)) → IsReading all_forms tokens variant letters → lowest_fit all_forms tokens ≡ Some (record { variant = variant; letters = letters })
-reading_found tokens variant letters reading =
-    let Goal : Option Found → Type 0 = λ found. ReadAs all_forms tokens found → found ≡ Some (record { variant = variant; letters = letters })
-    in (elim (lowest_fit all_forms tokens) as Goal [
-      | None ↦ λ unread. absurd (never_both all_forms tokens variant letters reading unread)
+pub reading_found : (kinds : List Words) (tokens : List Token) (variant : Variant) (letters : List (List Token)) → IsReadWith kinds tokens variant letters → read_with kinds tokens ≡ Some (record { variant = variant; letters = letters })
+reading_found kinds tokens variant letters reading =
+    let Goal : Option Found → Type 0 = λ found. ReadWith kinds tokens found → found ≡ Some (record { variant = variant; letters = letters })
+    in (elim (read_with kinds tokens) as Goal [
+      | None ↦ λ unread. absurd (not_both kinds tokens variant letters reading unread)
       | Some found ↦ λ read.
-          let same = reading_same all_forms tokens found.variant variant found.letters letters read reading in
+          let same = read_same kinds tokens found.variant variant found.letters letters read reading in
           (λ i. Some (record { variant = same.0 i; letters = same.1 i }))
-    ]) (read_as all_forms tokens)
+    ]) (found_with kinds tokens)
 
 -- where no form reads words, none is found
-unread_found : (tokens : List Token) → IsUnread all_forms tokens → lowest_fit all_forms tokens ≡ None
-unread_found tokens unread =
-    let Goal : Option Found → Type 0 = λ found. ReadAs all_forms tokens found → found ≡ None
-    in (elim (lowest_fit all_forms tokens) as Goal [
+unread_found : (kinds : List Words) (tokens : List Token) → IsUnreadWith kinds tokens → read_with kinds tokens ≡ None
+unread_found kinds tokens unread =
+    let Goal : Option Found → Type 0 = λ found. ReadWith kinds tokens found → found ≡ None
+    in (elim (read_with kinds tokens) as Goal [
       | None ↦ λ none. refl
-      | Some found ↦ λ read. absurd (never_both all_forms tokens found.variant found.letters read unread)
-    ]) (read_as all_forms tokens)
+      | Some found ↦ λ read. absurd (not_both kinds tokens found.variant found.letters read unread)
+    ]) (found_with kinds tokens)
 
 -- what is heard of words is what they say
-words_say : (tokens : List Token) → SaysInWords tokens (heard_found tokens (lowest_fit all_forms tokens))
-words_say tokens =
-    let Goal : Option Found → Type 0 = λ found. ReadAs all_forms tokens found → SaysInWords tokens (heard_found tokens found)
-    in (elim (lowest_fit all_forms tokens) as Goal [
+words_say : (kinds : List Words) (tokens : List Token) → SaysInWords kinds tokens (heard_found kinds tokens (read_with kinds tokens))
+words_say kinds tokens =
+    let Goal : Option Found → Type 0 = λ found. ReadWith kinds tokens found → SaysInWords kinds tokens (heard_found kinds tokens found)
+    in (elim (read_with kinds tokens) as Goal [
       | None ↦ λ unread. inr (unread, refl)
       | Some found ↦ λ read. inl (record { variant = found.variant; letters = found.letters; reading = read; says = refl })
-    ]) (read_as all_forms tokens)
+    ]) (found_with kinds tokens)
 
-words_heard : (tokens : List Token) (said : Heard) → SaysInWords tokens said → said ≡ heard_found tokens (lowest_fit all_forms tokens)
-words_heard tokens said (inl reads) = reads.says ∙ sym (ap (heard_found tokens) (reading_found tokens reads.variant reads.letters reads.reading))
-words_heard tokens said (inr unread) = unread.1 ∙ sym (ap (heard_found tokens) (unread_found tokens unread.0))
+words_heard : (kinds : List Words) (tokens : List Token) (said : Heard) → SaysInWords kinds tokens said → said ≡ heard_found kinds tokens (read_with kinds tokens)
+words_heard kinds tokens said (inl reads) = reads.says ∙ sym (ap (heard_found kinds tokens) (reading_found kinds tokens reads.variant reads.letters reads.reading))
+words_heard kinds tokens said (inr unread) = unread.1 ∙ sym (ap (heard_found kinds tokens) (unread_found kinds tokens unread.0))
 
-kind_says : (kind : PartKind) (tokens : List Token) → Says kind tokens (heard_of kind tokens)
-kind_says Title tokens = refl
-kind_says Heading tokens = refl
-kind_says Said tokens = words_say tokens
+kind_says : (kinds : List Words) (kind : PartKind) (tokens : List Token) → Says kinds kind tokens (heard_of kinds kind tokens)
+kind_says kinds Title tokens = refl
+kind_says kinds Heading tokens = refl
+kind_says kinds Said tokens = words_say kinds tokens
 
-kind_heard : (kind : PartKind) (tokens : List Token) (said : Heard) → Says kind tokens said → said ≡ heard_of kind tokens
-kind_heard Title tokens said says = says
-kind_heard Heading tokens said says = says
-kind_heard Said tokens said says = words_heard tokens said says
+kind_heard : (kinds : List Words) (kind : PartKind) (tokens : List Token) (said : Heard) → Says kinds kind tokens said → said ≡ heard_of kinds kind tokens
+kind_heard kinds Title tokens said says = says
+kind_heard kinds Heading tokens said says = says
+kind_heard kinds Said tokens said says = words_heard kinds tokens said says
 
-pub is_said : (part : Piece) (said : Heard) → heard_in part ≡ said → Says part.kind part.tokens said
+pub is_said : (kinds : List Words) (part : Piece) (said : Heard) → heard_in kinds part ≡ said → Says kinds part.kind part.tokens said
 unfolding heard_in
-is_said part said is = subst (Says part.kind part.tokens) is (kind_says part.kind part.tokens)
+is_said kinds part said is = subst (Says kinds part.kind part.tokens) is (kind_says kinds part.kind part.tokens)
 
-pub is_heard : (part : Piece) (said : Heard) → Says part.kind part.tokens said → heard_in part ≡ said
+pub is_heard : (kinds : List Words) (part : Piece) (said : Heard) → Says kinds part.kind part.tokens said → heard_in kinds part ≡ said
 unfolding heard_in
-is_heard part said says = sym (kind_heard part.kind part.tokens said says)
+is_heard kinds part said says = sym (kind_heard kinds part.kind part.tokens said says)
 
 unread_line : (said : Heard) (line : ℕ) → unread_at said ≡ Some line → said ≡ heard.Unread line
 unread_line (heard.Says said) line is = absurd (none-some line is)
@@ -79,16 +81,16 @@ reserved_line (heard.Says said) line is = absurd (none-some line is)
 reserved_line (heard.Unread at) line is = absurd (none-some line is)
 reserved_line (heard.Reserved at) line is = ap (λ l. heard.Reserved l) (same_Some at line is)
 
-pub tells_unread : (part : Piece) → Tells unread_in IsUnreadAt part
-tells_unread part = record {
-  bad = λ line is. is_said part (heard.Unread line) (unread_line (heard_in part) line is);
-  told = λ line bad. ap unread_at (is_heard part (heard.Unread line) bad);
+pub tells_unread : (kinds : List Words) (part : Piece) → Tells (unread_in kinds) (IsUnreadAt kinds) part
+tells_unread kinds part = record {
+  bad = λ line is. is_said kinds part (heard.Unread line) (unread_line (heard_in kinds part) line is);
+  told = λ line bad. ap unread_at (is_heard kinds part (heard.Unread line) bad);
 }
 
-pub tells_reserved : (part : Piece) → Tells reserved_in HasReservedName part
-tells_reserved part = record {
-  bad = λ line is. is_said part (heard.Reserved line) (reserved_line (heard_in part) line is);
-  told = λ line bad. ap reserved_at (is_heard part (heard.Reserved line) bad);
+pub tells_reserved : (kinds : List Words) (part : Piece) → Tells (reserved_in kinds) (HasReservedName kinds) part
+tells_reserved kinds part = record {
+  bad = λ line is. is_said kinds part (heard.Reserved line) (reserved_line (heard_in kinds part) line is);
+  told = λ line bad. ap reserved_at (is_heard kinds part (heard.Reserved line) bad);
 }
 
 held : (holds : Bool) (at line : ℕ) → (if holds then Some at else None) ≡ Some line → (holds ≡ true) × (at ≡ line)
@@ -101,6 +103,6 @@ tells_stretch stretch = record {
   told = λ line bad. ap (λ holds. if holds then Some stretch.line else None) bad.holds ∙ ap (λ at. Some at) bad.line_is;
 }
 
-pub tells_literal : (part : Piece) → Tells bad_literal_of HasBadLiteral part
+pub tells_literal : (kinds : List Words) (part : Piece) → Tells (bad_literal_of kinds) (HasBadLiteral kinds) part
 unfolding bad_literal_of
-tells_literal part = lowest_tells bad_literal_in HoldsBadLiteral tells_stretch stretches_of part
+tells_literal kinds part = lowest_tells bad_literal_in HoldsBadLiteral tells_stretch (stretches_of kinds) part

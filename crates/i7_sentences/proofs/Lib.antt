@@ -1,3 +1,4 @@
+pub mod Alike
 pub mod Automata
 pub mod Bracketing
 pub mod Choosing
@@ -25,3 +26,7 @@ pub mod Telling
 pub mod Verdicts
 pub mod WordColumns
 pub mod RisingLines
+pub mod Valuing
+pub mod ValueKinds
+pub mod ReadingWith
+pub mod KindsDeclared

@@ -7,6 +7,8 @@ use Rattle.i7_lexer.specs.Rising.{LinesRise}
 use Rattle.i7_lexer.proofs.Rising.{RiseFrom, left_out, lines_rise, map_append, rise_from}
 use Rattle.i7_lexer.specs.declared.token.Token.{Token}
 use Rattle.i7_sentences.specs.Cuts.{Piece, cut, cut_from, is_colon, is_heading, is_same_paragraph, is_same_sentence, is_stop_alone, kind_of, line_in, line_of, opens_nothing, parts_of, with_paragraph, with_sentence}
+use Rattle.i7_sentences.specs.KindsOfValue.{kinds_of_value}
+use Rattle.i7_sentences.specs.Names.{Words}
 use Rattle.i7_sentences.specs.Seams.{tokens_in}
 use Rattle.i7_sentences.specs.Sources.{HasSentences, IsSentence}
 use Rattle.i7_sentences.specs.declared.part.PartKind.TheVariants.{Heading}
@@ -113,13 +115,13 @@ parts_rise tokens r =
 abbrev sentence_line : Sentence → ℕ
 sentence_line s = s.line
 
-lines_kept : (parts : List Piece) (sentences : List Sentence) → AllZip IsSentence parts sentences → map sentence_line sentences ≡ map line_of parts
-lines_kept [] [] said = refl
-lines_kept [] (s ∷ sentences) said = absurd said
-lines_kept (part ∷ parts) [] said = absurd said
-lines_kept (part ∷ parts) (s ∷ sentences) said = λ i. said.0.line_is i ∷ lines_kept parts sentences said.1 i
+lines_kept : (kinds : List Words) (parts : List Piece) (sentences : List Sentence) → AllZip (IsSentence kinds) parts sentences → map sentence_line sentences ≡ map line_of parts
+lines_kept kinds [] [] said = refl
+lines_kept kinds [] (s ∷ sentences) said = absurd said
+lines_kept kinds (part ∷ parts) [] said = absurd said
+lines_kept kinds (part ∷ parts) (s ∷ sentences) said = λ i. said.0.line_is i ∷ lines_kept kinds parts sentences said.1 i
 
 pub sentence_lines_rise : (tokens : List Token) (sentences : List Sentence) → LinesRise (λ t. t.line) tokens → HasSentences tokens sentences → LinesRise (λ s. s.line) sentences
 sentence_lines_rise tokens sentences rise says =
     lines_rise sentence_line sentences
-    (subst (λ (ns : List ℕ). RiseFrom 0 ns) (sym (lines_kept (parts_of tokens) sentences says.said)) (parts_rise tokens (rise_from token_line 0 tokens (λ first more split. omega arith) rise)))
+    (subst (λ (ns : List ℕ). RiseFrom 0 ns) (sym (lines_kept (kinds_of_value (parts_of tokens)) (parts_of tokens) sentences says.said)) (parts_rise tokens (rise_from token_line 0 tokens (λ first more split. omega arith) rise)))

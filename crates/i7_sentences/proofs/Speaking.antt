@@ -13,12 +13,14 @@ use Rattle.i7_lexer.specs.declared.token.TokenKind.TheVariants.{Text, Word as AW
 use Rattle.i7_sentences.specs.Assertions.{assertion_of, described, described_object, door_between, is_asserting, is_describing, is_describing_kind, describing_text, describing_text_in, side_direction, side_of, way_assertion}
 use Rattle.i7_sentences.specs.Classes.{IsOf, is_direction, is_behind, is_vertical}
 use Rattle.i7_sentences.specs.Cuts.{Piece as Part, line_in}
-use Rattle.i7_sentences.specs.Forms.{Fits, IsReading, Variant, all_forms}
+use Rattle.i7_sentences.specs.Forms.{Fits, IsReading, Variant, higher_forms, lower_forms}
 use Rattle.i7_sentences.specs.Keywords.{is_sign}
+use Rattle.i7_sentences.specs.Names.{Words}
 use Rattle.i7_sentences.specs.Read.{heard_by, named_heard, plain_heard}
 use Rattle.i7_sentences.specs.Reserved.{has_reserved_among}
 use Rattle.i7_sentences.specs.RuleHeads.{is_rule_form}
 use Rattle.i7_sentences.specs.Sources.{IsSpeaking, Says, SaysInWords}
+use Rattle.i7_sentences.specs.ValueForms.{IsReadWith, IsValueReading, ValueForm, value_forms}
 use Rattle.i7_sentences.specs.Words.{direction_named, is_text_kind, word_of}
 use Rattle.i7_sentences.specs.declared.action_form.ActionSort.TheVariants as sort
 use Rattle.i7_sentences.specs.declared.action_form.TheConstants.{ACTION_FORMS}
@@ -33,7 +35,7 @@ use Rattle.i7_sentences.specs.declared.heard.Heard.TheVariants as heard
 use Rattle.i7_sentences.specs.declared.part.PartKind.{PartKind}
 use Rattle.i7_sentences.specs.declared.part.PartKind.TheVariants.{Title, Heading, Sentence as Said}
 use Rattle.i7_sentences.specs.declared.sentence.Assertion.{Assertion}
-use Rattle.i7_sentences.proofs.Sameness.{never_both, reading_same}
+use Rattle.i7_sentences.proofs.ReadingWith.{not_both, read_same}
 
 abbrev Each : {X : Type 0} → (X → Type 0) → List X → Type 0
 Each P [] = Unit {0}
@@ -75,8 +77,9 @@ letters_are (Letter class ∷ pieces) tokens letters fits plain =
     let plains = describing_parts fits.words fits.rest tokens fits.parts plain in
     subst (AreOf (class ∷ classes_of pieces)) (sym fits.keeps) (record { of_class = fits.is_of_class; plain = plains.0; others = letters_are pieces fits.rest fits.others fits.behind plains.1 })
 
+-- whatever kinds of value are declared
 abbrev IsSaid : Form → List (List Token) → Type 0
-IsSaid form letters = is_some (assertion_of form letters) ≡ true
+IsSaid form letters = (kinds : List Words) → is_some (assertion_of kinds form letters) ≡ true
 
 abbrev SpeaksOf : Form → List Class → Type 0
 SpeaksOf form classes = (letters : List (List Token)) → AreOf classes letters → is_asserting form ≡ true → IsSaid form letters
@@ -165,31 +168,31 @@ side_there (token ∷ next ∷ third ∷ more) is = absurd (false≢true is)
 actions_speak : Each Speaks (map (λ variant. record { form = variant.0; pieces = variant.1.now }) ACTION_FORMS.now)
 unfolding assertion_of
 actions_speak = (
-  one _ (form.Action sort.InWorld) (λ a is plain. refl),
+  one _ (form.Action sort.InWorld) (λ a is plain kinds. refl),
   (
-    two _ _ (form.Action sort.InWorld) (λ a b first second plain. refl),
+    two _ _ (form.Action sort.InWorld) (λ a b first second plain kinds. refl),
     (
-      three _ _ _ (form.Action sort.InWorld) (λ a b c first second third plain. refl),
+      three _ _ _ (form.Action sort.InWorld) (λ a b c first second third plain kinds. refl),
       (
-        one _ (form.ActionOnTwo sort.InWorld) (λ a is plain. refl),
+        one _ (form.ActionOnTwo sort.InWorld) (λ a is plain kinds. refl),
         (
-          one _ (form.Action sort.InLight) (λ a is plain. refl),
+          one _ (form.Action sort.InLight) (λ a is plain kinds. refl),
           (
-            two _ _ (form.Action sort.InLight) (λ a b first second plain. refl),
+            two _ _ (form.Action sort.InLight) (λ a b first second plain kinds. refl),
             (
-              three _ _ _ (form.Action sort.InLight) (λ a b c first second third plain. refl),
+              three _ _ _ (form.Action sort.InLight) (λ a b c first second third plain kinds. refl),
               (
-                one _ (form.ActionOnTwo sort.InLight) (λ a is plain. refl),
+                one _ (form.ActionOnTwo sort.InLight) (λ a is plain kinds. refl),
                 (
-                  one _ (form.Action sort.OutOfWorld) (λ a is plain. refl),
+                  one _ (form.Action sort.OutOfWorld) (λ a is plain kinds. refl),
                   (
-                    one _ (form.Action sort.OutOfWorld) (λ a is plain. refl),
+                    one _ (form.Action sort.OutOfWorld) (λ a is plain kinds. refl),
                     (
-                      two _ _ (form.Action sort.OutOfWorld) (λ a b first second plain. refl),
+                      two _ _ (form.Action sort.OutOfWorld) (λ a b first second plain kinds. refl),
                       (
-                        three _ _ _ (form.Action sort.OutOfWorld) (λ a b c first second third plain. refl),
+                        three _ _ _ (form.Action sort.OutOfWorld) (λ a b c first second third plain kinds. refl),
                         (
-                          one _ (form.ActionOnTwo sort.OutOfWorld) (λ a is plain. refl),
+                          one _ (form.ActionOnTwo sort.OutOfWorld) (λ a is plain kinds. refl),
                           tt,
                         ),
                       ),
@@ -205,105 +208,37 @@ actions_speak = (
   ),
 )
 
-all_speak : Each (Each Speaks) all_forms
-unfolding all_forms assertion_of
-all_speak = (
-  (one _ form.Description (λ a is plain. described_said (describing_text a) (text_describes a is plain)), tt),
-  (
-    (λ letters are. never, tt),
-    (
-      (λ letters are. never, tt),
-      (
-        (λ letters are. never, tt),
-        (
-          (λ letters are. never, tt),
-          (
-            (λ letters are. never, tt),
-            (
-              (λ letters are. never, tt),
-              (
-                (λ letters are. never, tt),
-                (
-                  (λ letters are. never, (λ letters are. never, tt)),
-                  (
-                    (λ letters are. never, (λ letters are. never, tt)),
-                    (
-                      (λ letters are. never, (λ letters are. never, tt)),
-                      (
-                        (λ letters are. never, (λ letters are. never, tt)),
-                        (
-                          (λ letters are. never, (λ letters are. never, tt)),
-                          (
-                            (λ letters are. never, (λ letters are. never, tt)),
-                            (
-                              (two _ _ form.ListedFirst (λ a b first second plain. refl), (two _ _ form.ListedLast (λ a b first second plain. refl), (one _ form.NotListed (λ a is plain. refl), tt))),
-                              (
-                                actions_speak,
-                                (
-                                  (one _ form.Rulebook (λ a is plain. refl), tt),
-                                  (
-                                    (one _ form.Scene (λ a is plain. refl), (one _ form.RecurringScene (λ a is plain. refl), tt)),
-                                    (
-                                      (two _ _ form.KindOfKind (λ a b first second plain. refl), tt),
-                                      (
-                                        (two _ _ form.CanBe (λ a b first second plain. refl), (three _ _ _ form.CanBeEither (λ a b c first second third plain. refl), tt)),
-                                        (
-                                          (two _ _ form.NumberProperty (λ a b first second plain. refl), tt),
-                                          (
-                                            (two _ _ form.Usually (λ a b first second plain. refl), (three _ _ _ form.UsuallyNumber (λ a b c first second third plain. refl), tt)),
-                                            (
-                                              (one _ form.Variable (λ a is plain. refl), tt),
-                                              (
-                                                (two _ _ form.DescriptionOf (λ a b first second plain. object_said a (describing_text b) (text_describes b second plain)), (three _ _ _ form.DescriptionOf (λ a b c first second third plain. object_said b (describing_text c) (text_describes c third plain)), tt)),
-                                                (
-                                                  (three _ _ _ form.NumberOf (λ a b c first second third plain. refl), tt),
-                                                  (
-                                                    (five _ _ _ _ _ form.DoorTo (λ a b c d e side other. door_said a c e (side_direction b) (side_direction d) (side_there b side) (side_there d other)), (three _ _ _ form.WayTo (λ a b c first side third plain. way_said a (side_direction b) c false (side_there b side)), (three _ _ _ form.WayFrom (λ a b c side second third plain. way_said c (side_direction a) b true (side_there a side)), tt))),
-                                                    (
-                                                      (two _ _ (form.Holds Rel.Carried) (λ a b first second plain. refl), (two _ _ (form.Holds Rel.Worn) (λ a b first second plain. refl), (two _ _ (form.Holds Rel.In) (λ a b first second plain. refl), (two _ _ (form.Holds Rel.On) (λ a b first second plain. refl), tt)))),
-                                                      (
-                                                        (two _ _ form.VariableIs (λ a b first second plain. refl), (two _ _ (form.Held Rel.In) (λ a b first second plain. refl), (two _ _ (form.Held Rel.On) (λ a b first second plain. refl), (two _ _ (form.Held Rel.Carried) (λ a b first second plain. refl), (two _ _ (form.Held Rel.Worn) (λ a b first second plain. refl), (two _ _ (form.Held Rel.Part) (λ a b first second plain. refl), tt)))))),
-                                                        (
-                                                          (three _ _ _ (form.WhatHeld Rel.In) (λ a b c first second third plain. refl), (three _ _ _ (form.WhatHeld Rel.On) (λ a b c first second third plain. refl), (three _ _ _ (form.WhatHeld Rel.Carried) (λ a b c first second third plain. refl), (three _ _ _ (form.WhatHeld Rel.Worn) (λ a b c first second third plain. refl), (three _ _ _ (form.WhatHeld Rel.Part) (λ a b c first second third plain. refl), tt))))),
-                                                          (
-                                                            (two _ _ form.Is (λ a b first second plain. refl), tt),
-                                                            tt,
-                                                          ),
-                                                        ),
-                                                      ),
-                                                    ),
-                                                  ),
-                                                ),
-                                              ),
-                                            ),
-                                          ),
-                                        ),
-                                      ),
-                                    ),
-                                  ),
-                                ),
-                              ),
-                            ),
-                          ),
-                        ),
-                      ),
-                    ),
-                  ),
-                ),
-              ),
-            ),
-          ),
-        ),
-      ),
-    ),
-  ),
-)
+lower_speak : Each (Each Speaks) lower_forms
+unfolding lower_forms assertion_of
+lower_speak = ((one _ form.Description (λ a is plain kinds. described_said (describing_text a) (text_describes a is plain)), tt), ((λ letters are. never, tt), ((λ letters are. never, tt), ((λ letters are. never, tt), ((λ letters are. never, tt), ((λ letters are. never, tt), ((λ letters are. never, tt), ((λ letters are. never, tt), ((λ letters are. never, (λ letters are. never, tt)), ((λ letters are. never, (λ letters are. never, tt)), ((λ letters are. never, (λ letters are. never, tt)), ((λ letters are. never, (λ letters are. never, tt)), ((λ letters are. never, (λ letters are. never, tt)), ((λ letters are. never, (λ letters are. never, tt)), ((two _ _ form.ListedFirst (λ a b first second plain kinds. refl), (two _ _ form.ListedLast (λ a b first second plain kinds. refl), (one _ form.NotListed (λ a is plain kinds. refl), tt))), (actions_speak, ((one _ form.Rulebook (λ a is plain kinds. refl), tt), ((one _ form.Scene (λ a is plain kinds. refl), (one _ form.RecurringScene (λ a is plain kinds. refl), tt)), tt))))))))))))))))))
 
-speaks : (tokens : List Token) (variant : Variant) (letters : List (List Token)) → IsReading all_forms tokens variant letters → is_asserting variant.form ≡ true → AreDescribing tokens → IsSaid variant.form letters
-speaks tokens variant letters reading asserts plain =
-    let form = each_there (Each Speaks) reading.lower reading.variants reading.higher (subst (Each (Each Speaks)) reading.place all_speak) in
+higher_speak : Each (Each Speaks) higher_forms
+unfolding higher_forms assertion_of
+higher_speak = ((two _ _ form.KindOfKind (λ a b first second plain kinds. refl), tt), ((two _ _ form.CanBe (λ a b first second plain kinds. refl), (three _ _ _ form.CanBeEither (λ a b c first second third plain kinds. refl), tt)), ((two _ _ form.NumberProperty (λ a b first second plain kinds. refl), tt), ((two _ _ form.Usually (λ a b first second plain kinds. refl), (three _ _ _ form.UsuallyNumber (λ a b c first second third plain kinds. refl), tt)), ((one _ form.Variable (λ a is plain kinds. refl), tt), ((two _ _ form.DescriptionOf (λ a b first second plain kinds. object_said a (describing_text b) (text_describes b second plain)), (three _ _ _ form.DescriptionOf (λ a b c first second third plain kinds. object_said b (describing_text c) (text_describes c third plain)), tt)), ((three _ _ _ form.NumberOf (λ a b c first second third plain kinds. refl), tt), ((five _ _ _ _ _ form.DoorTo (λ a b c d e side other kinds. door_said a c e (side_direction b) (side_direction d) (side_there b side) (side_there d other)), (three _ _ _ form.WayTo (λ a b c first side third plain kinds. way_said a (side_direction b) c false (side_there b side)), (three _ _ _ form.WayFrom (λ a b c side second third plain kinds. way_said c (side_direction a) b true (side_there a side)), tt))), ((two _ _ (form.Holds Rel.Carried) (λ a b first second plain kinds. refl), (two _ _ (form.Holds Rel.Worn) (λ a b first second plain kinds. refl), (two _ _ (form.Holds Rel.In) (λ a b first second plain kinds. refl), (two _ _ (form.Holds Rel.On) (λ a b first second plain kinds. refl), tt)))), ((two _ _ form.VariableIs (λ a b first second plain kinds. refl), (two _ _ (form.Held Rel.In) (λ a b first second plain kinds. refl), (two _ _ (form.Held Rel.On) (λ a b first second plain kinds. refl), (two _ _ (form.Held Rel.Carried) (λ a b first second plain kinds. refl), (two _ _ (form.Held Rel.Worn) (λ a b first second plain kinds. refl), (two _ _ (form.Held Rel.Part) (λ a b first second plain kinds. refl), tt)))))), ((three _ _ _ (form.WhatHeld Rel.In) (λ a b c first second third plain kinds. refl), (three _ _ _ (form.WhatHeld Rel.On) (λ a b c first second third plain kinds. refl), (three _ _ _ (form.WhatHeld Rel.Carried) (λ a b c first second third plain kinds. refl), (three _ _ _ (form.WhatHeld Rel.Worn) (λ a b c first second third plain kinds. refl), (three _ _ _ (form.WhatHeld Rel.Part) (λ a b c first second third plain kinds. refl), tt))))), ((two _ _ form.Is (λ a b first second plain kinds. refl), tt), tt))))))))))))
+
+abbrev ValueSpeaks : ValueForm → Type 0
+ValueSpeaks form = Speaks form.variant
+
+values_speak : Each ValueSpeaks value_forms
+unfolding value_forms assertion_of
+values_speak = (one _ form.ValueKind (λ a is plain kinds. refl), (two _ _ form.Values (λ a b first second plain kinds. refl), (two _ _ form.HasValue (λ a b first second plain kinds. refl), (three _ _ _ form.UsuallyValue (λ a b c first second third plain kinds. refl), (three _ _ _ form.ValueOf (λ a b c first second third plain kinds. refl), tt)))))
+
+speaks : (forms : List (List Variant)) (tokens : List Token) (variant : Variant) (letters : List (List Token)) → Each (Each Speaks) forms → IsReading forms tokens variant letters → is_asserting variant.form ≡ true → AreDescribing tokens → IsSaid variant.form letters
+speaks forms tokens variant letters all reading asserts plain =
+    let form = each_there (Each Speaks) reading.lower reading.variants reading.higher (subst (Each (Each Speaks)) reading.place all) in
     let own = each_there Speaks reading.fit.before variant reading.fit.after (subst (Each Speaks) reading.fit.place form) in
     own letters (letters_are variant.pieces tokens letters reading.fit.fits plain) asserts
+
+value_speaks : (kinds : List Words) (tokens : List Token) (variant : Variant) (letters : List (List Token)) → IsValueReading kinds tokens variant letters → is_asserting variant.form ≡ true → AreDescribing tokens → IsSaid variant.form letters
+value_speaks kinds tokens variant letters read asserts plain =
+    let own = each_there ValueSpeaks read.reads.lower read.form read.reads.higher (subst (Each ValueSpeaks) read.reads.place values_speak) in
+    subst (λ (v : Variant). IsSaid v.form letters) (sym read.is_variant)
+    (own letters (letters_are read.form.variant.pieces tokens letters read.reads.fits.fits plain) (subst (λ (v : Variant). is_asserting v.form ≡ true) read.is_variant asserts))
+
+speaks_with : (kinds : List Words) (tokens : List Token) (variant : Variant) (letters : List (List Token)) → IsReadWith kinds tokens variant letters → is_asserting variant.form ≡ true → AreDescribing tokens → IsSaid variant.form letters
+speaks_with kinds tokens variant letters (inl reading) asserts plain = speaks lower_forms tokens variant letters lower_speak reading asserts plain
+speaks_with kinds tokens variant letters (inr (inl read)) asserts plain = value_speaks kinds tokens variant letters read.1 asserts plain
+speaks_with kinds tokens variant letters (inr (inr reading)) asserts plain = speaks higher_forms tokens variant letters higher_speak reading.2 asserts plain
 
 -- a form that asserts is no rule's
 no_rule : (form : Form) → is_asserting form ≡ true → is_rule_form form ≡ false
@@ -328,20 +263,20 @@ plain_read : (line at : ℕ) (is_reserved : Bool) (said : Option Assertion) → 
 plain_read line at is_reserved None there is = false≢true there
 plain_read line at is_reserved (Some said) there is = named_read line at is_reserved said is
 
-by_form : (tokens : List Token) (variant : Variant) (letters : List (List Token)) → is_asserting variant.form ≡ true → heard_by tokens variant letters ≡ plain_heard (line_in tokens) (has_reserved_among variant.pieces letters) (assertion_of variant.form letters)
-by_form tokens variant letters asserts = rw (no_rule variant.form asserts) refl
+by_form : (kinds : List Words) (tokens : List Token) (variant : Variant) (letters : List (List Token)) → is_asserting variant.form ≡ true → heard_by kinds tokens variant letters ≡ plain_heard (line_in tokens) (has_reserved_among variant.pieces letters) (assertion_of kinds variant.form letters)
+by_form kinds tokens variant letters asserts = rw (no_rule variant.form asserts) refl
 
-words_read : (tokens : List Token) (variant : Variant) (letters : List (List Token)) (line : ℕ) → IsReading all_forms tokens variant letters → is_asserting variant.form ≡ true → AreDescribing tokens → SaysInWords tokens (heard.Unread line) → ⊥
-words_read tokens variant letters line reading asserts plain (inl reads) =
-    let same = reading_same all_forms tokens reads.variant variant reads.letters letters reads.reading reading in
-    plain_read (line_in tokens) line (has_reserved_among variant.pieces letters) (assertion_of variant.form letters) (speaks tokens variant letters reading asserts plain)
-    (sym (by_form tokens variant letters asserts) ∙ sym (λ i. heard_by tokens (same.0 i) (same.1 i)) ∙ sym reads.says)
-words_read tokens variant letters line reading asserts plain (inr unread) = never_both all_forms tokens variant letters reading unread.0
+words_read : (kinds : List Words) (tokens : List Token) (variant : Variant) (letters : List (List Token)) (line : ℕ) → IsReadWith kinds tokens variant letters → is_asserting variant.form ≡ true → AreDescribing tokens → SaysInWords kinds tokens (heard.Unread line) → ⊥
+words_read kinds tokens variant letters line reading asserts plain (inl reads) =
+    let same = read_same kinds tokens reads.variant variant reads.letters letters reads.reading reading in
+    plain_read (line_in tokens) line (has_reserved_among variant.pieces letters) (assertion_of kinds variant.form letters) (speaks_with kinds tokens variant letters reading asserts plain kinds)
+    (sym (by_form kinds tokens variant letters asserts) ∙ sym (λ i. heard_by kinds tokens (same.0 i) (same.1 i)) ∙ sym reads.says)
+words_read kinds tokens variant letters line reading asserts plain (inr unread) = not_both kinds tokens variant letters reading unread.0
 
-kind_read : (kind : PartKind) (tokens : List Token) (variant : Variant) (letters : List (List Token)) (line : ℕ) → IsReading all_forms tokens variant letters → is_asserting variant.form ≡ true → AreDescribing tokens → Says kind tokens (heard.Unread line) → ⊥
-kind_read Title tokens variant letters line reading asserts plain says = cc
-kind_read Heading tokens variant letters line reading asserts plain says = cc
-kind_read Said tokens variant letters line reading asserts plain says = words_read tokens variant letters line reading asserts plain says
+kind_read : (kinds : List Words) (kind : PartKind) (tokens : List Token) (variant : Variant) (letters : List (List Token)) (line : ℕ) → IsReadWith kinds tokens variant letters → is_asserting variant.form ≡ true → AreDescribing tokens → Says kinds kind tokens (heard.Unread line) → ⊥
+kind_read kinds Title tokens variant letters line reading asserts plain says = cc
+kind_read kinds Heading tokens variant letters line reading asserts plain says = cc
+kind_read kinds Said tokens variant letters line reading asserts plain says = words_read kinds tokens variant letters line reading asserts plain says
 
-pub never_silent : (part : Part) (variant : Variant) (letters : List (List Token)) → IsReading all_forms part.tokens variant letters → IsSpeaking variant part
-never_silent part variant letters reading asserts plain line says = kind_read part.kind part.tokens variant letters line reading asserts plain says
+pub never_silent : (kinds : List Words) (part : Part) (variant : Variant) (letters : List (List Token)) → IsReadWith kinds part.tokens variant letters → IsSpeaking kinds variant part
+never_silent kinds part variant letters reading asserts plain line says = kind_read kinds part.kind part.tokens variant letters line reading asserts plain says

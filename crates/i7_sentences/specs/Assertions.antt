@@ -12,11 +12,12 @@ use Rattle.i7_sentences.specs.ActionDeclarations.{action, action_on_two}
 use Rattle.i7_sentences.specs.Conditions.{are_pieces_read}
 use Rattle.i7_sentences.specs.Keywords.{is_sign}
 use Rattle.i7_sentences.specs.Literals.{literal_of}
-use Rattle.i7_sentences.specs.Names.{joined, name_of, names_from}
+use Rattle.i7_sentences.specs.Names.{joined, name_of, names_from, Words}
 use Rattle.i7_sentences.specs.RuleListings.{listed_first, listed_last, not_listed}
 use Rattle.i7_sentences.specs.SceneChanges.{scene_change}
 use Rattle.i7_sentences.specs.TextPieces.{is_text_read, text_pieces}
 use Rattle.i7_sentences.specs.Understandings.{understands}
+use Rattle.i7_sentences.specs.ValueAssertions.{has_value, kind_of_value, usually_value, value_of, values}
 use Rattle.i7_sentences.specs.Words.{word_of, direction_named}
 use Rattle.i7_sentences.specs.declared.keyword.Keyword.TheVariants as keyword
 use Rattle.i7_sentences.specs.declared.form.Form.{Form}
@@ -205,38 +206,43 @@ abbrev pub are : List (List Token) → Option Assertion
 are (subjects ∷ what ∷ []) = being subjects what None
 are _ = None
 
--- what a form says with these letters
-unfoldable pub assertion_of : Form → List (List Token) → Option Assertion
-assertion_of form.Description letters = description letters
-assertion_of form.Understand letters = understands letters
-assertion_of form.SceneBegins letters = scene_change edge.Begins letters
-assertion_of form.SceneEnds letters = scene_change edge.Ends letters
-assertion_of form.ListedFirst letters = listed_first letters
-assertion_of form.ListedLast letters = listed_last letters
-assertion_of form.NotListed letters = not_listed letters
-assertion_of (form.Action sort) letters = action sort letters
-assertion_of (form.ActionOnTwo sort) letters = action_on_two sort letters
-assertion_of form.Rulebook letters = rulebook letters
-assertion_of form.Scene letters = scene false letters
-assertion_of form.RecurringScene letters = scene true letters
-assertion_of form.KindOfKind letters = kind_of_kind letters
-assertion_of form.CanBe letters = can_be letters
-assertion_of form.CanBeEither letters = can_be_either letters
-assertion_of form.NumberProperty letters = number_property letters
-assertion_of form.Usually letters = usually letters
-assertion_of form.UsuallyNumber letters = usually_number letters
-assertion_of form.Variable letters = variable letters
-assertion_of form.DescriptionOf letters = description_of letters
-assertion_of form.NumberOf letters = number_of letters
-assertion_of form.DoorTo letters = door_to letters
-assertion_of form.WayTo letters = way_to letters
-assertion_of form.WayFrom letters = way_from letters
-assertion_of (form.Holds relation) letters = holds relation letters
-assertion_of form.VariableIs letters = variable_is letters
-assertion_of (form.Held relation) letters = held relation letters
-assertion_of (form.WhatHeld relation) letters = what_held relation letters
-assertion_of form.Is letters = are letters
-assertion_of _ letters = None
+-- what a form says with these letters, where these kinds of value are declared
+unfoldable pub assertion_of : List Words → Form → List (List Token) → Option Assertion
+assertion_of kinds form.Description letters = description letters
+assertion_of kinds form.Understand letters = understands letters
+assertion_of kinds form.SceneBegins letters = scene_change edge.Begins letters
+assertion_of kinds form.SceneEnds letters = scene_change edge.Ends letters
+assertion_of kinds form.ListedFirst letters = listed_first letters
+assertion_of kinds form.ListedLast letters = listed_last letters
+assertion_of kinds form.NotListed letters = not_listed letters
+assertion_of kinds (form.Action sort) letters = action sort letters
+assertion_of kinds (form.ActionOnTwo sort) letters = action_on_two sort letters
+assertion_of kinds form.Rulebook letters = rulebook letters
+assertion_of kinds form.Scene letters = scene false letters
+assertion_of kinds form.RecurringScene letters = scene true letters
+assertion_of kinds form.ValueKind letters = kind_of_value letters
+assertion_of kinds form.Values letters = values kinds letters
+assertion_of kinds form.HasValue letters = has_value letters
+assertion_of kinds form.UsuallyValue letters = usually_value letters
+assertion_of kinds form.ValueOf letters = value_of letters
+assertion_of kinds form.KindOfKind letters = kind_of_kind letters
+assertion_of kinds form.CanBe letters = can_be letters
+assertion_of kinds form.CanBeEither letters = can_be_either letters
+assertion_of kinds form.NumberProperty letters = number_property letters
+assertion_of kinds form.Usually letters = usually letters
+assertion_of kinds form.UsuallyNumber letters = usually_number letters
+assertion_of kinds form.Variable letters = variable letters
+assertion_of kinds form.DescriptionOf letters = description_of letters
+assertion_of kinds form.NumberOf letters = number_of letters
+assertion_of kinds form.DoorTo letters = door_to letters
+assertion_of kinds form.WayTo letters = way_to letters
+assertion_of kinds form.WayFrom letters = way_from letters
+assertion_of kinds (form.Holds relation) letters = holds relation letters
+assertion_of kinds form.VariableIs letters = variable_is letters
+assertion_of kinds (form.Held relation) letters = held relation letters
+assertion_of kinds (form.WhatHeld relation) letters = what_held relation letters
+assertion_of kinds form.Is letters = are letters
+assertion_of kinds _ letters = None
 
 -- the forms that say something whatever their letters are, descriptions aside: neither rules, what a scene begins or ends on, nor what
 -- commands mean, whose words and texts have a shape of their own

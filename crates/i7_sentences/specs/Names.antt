@@ -30,12 +30,16 @@ is_some_article (first ∷ rest) = is_sign keyword.Some first
 abbrev pub article_of : List Token → NameArticle
 article_of letter = if has_article letter then (if is_some_article letter then article.Some else article.Plain) else article.None
 
+-- words as they are written
+abbrev pub Words : Type 0
+Words = List (List ℕ)
+
 -- the words of a letter, as they are written
-abbrev pub words_in : List Token → List (List ℕ)
+abbrev pub words_in : List Token → Words
 words_in letter = map word_of letter
 
 -- the same without the one free article in front
-abbrev pub named_in : List Token → List (List ℕ)
+abbrev pub named_in : List Token → Words
 named_in letter = words_in (name_words letter)
 
 -- words parted by one space

@@ -6,14 +6,17 @@ use Rattle.world_meaning.specs.declared.fault.FaultCode.{FaultCode}
 use Rattle.world_meaning.specs.declared.fault.FaultCode.TheVariants.{NumberOutOfRange, NotUnderstood, ReservedWord}
 use Rattle.i7_lexer.specs.declared.token.Token.{Token}
 use Rattle.i7_sentences.specs.Cuts.{Piece, line_in, line_of, parts_of}
-use Rattle.i7_sentences.specs.Forms.{Variant, all_forms}
+use Rattle.i7_sentences.specs.Forms.{Variant}
+use Rattle.i7_sentences.specs.KindsOfValue.{kinds_of_value}
 use Rattle.i7_sentences.specs.Lowest.{lowest}
-use Rattle.i7_sentences.specs.Matching.{Found, lowest_fit}
+use Rattle.i7_sentences.specs.Matching.{Found}
 use Rattle.i7_sentences.specs.Assertions.{assertion_of}
+use Rattle.i7_sentences.specs.Names.{Words}
 use Rattle.i7_sentences.specs.Reserved.{has_reserved_among}
 use Rattle.i7_sentences.specs.RuleHeads.{is_rule_form}
 use Rattle.i7_sentences.specs.Rules.{rule_heard}
 use Rattle.i7_sentences.specs.Stretches.{bad_literal_of}
+use Rattle.i7_sentences.specs.ValueFits.{read_with}
 use Rattle.i7_sentences.specs.declared.heard.Heard.{Heard}
 use Rattle.i7_sentences.specs.declared.heard.Heard.TheVariants.{Says, Unread, Reserved}
 use Rattle.i7_sentences.specs.declared.part.PartKind.{PartKind}
@@ -31,25 +34,25 @@ abbrev pub plain_heard : ℕ → Bool → Option Assertion → Heard
 plain_heard line is_reserved None = Unread line
 plain_heard line is_reserved (Some said) = named_heard line is_reserved said
 
--- what a sentence says that is read by this variant of a form
-abbrev pub heard_by : List Token → Variant → List (List Token) → Heard
-heard_by tokens variant letters =
+-- what a sentence says that is read by this variant of a form, where these kinds of value are declared
+abbrev pub heard_by : List Words → List Token → Variant → List (List Token) → Heard
+heard_by kinds tokens variant letters =
     if is_rule_form variant.form then rule_heard tokens
-    else plain_heard (line_in tokens) (has_reserved_among variant.pieces letters) (assertion_of variant.form letters)
+    else plain_heard (line_in tokens) (has_reserved_among variant.pieces letters) (assertion_of kinds variant.form letters)
 
-abbrev pub heard_found : List Token → Option Found → Heard
-heard_found tokens None = Unread (line_in tokens)
-heard_found tokens (Some found) = heard_by tokens found.variant found.letters
+abbrev pub heard_found : List Words → List Token → Option Found → Heard
+heard_found kinds tokens None = Unread (line_in tokens)
+heard_found kinds tokens (Some found) = heard_by kinds tokens found.variant found.letters
 
 -- a title or a heading asserts nothing
-abbrev pub heard_of : PartKind → List Token → Heard
-heard_of Title tokens = Says Aside
-heard_of Heading tokens = Says Aside
-heard_of Said tokens = heard_found tokens (lowest_fit all_forms tokens)
+abbrev pub heard_of : List Words → PartKind → List Token → Heard
+heard_of kinds Title tokens = Says Aside
+heard_of kinds Heading tokens = Says Aside
+heard_of kinds Said tokens = heard_found kinds tokens (read_with kinds tokens)
 
 -- what a part says, or the line at which it is refused
-unfoldable pub heard_in : Piece → Heard
-heard_in part = heard_of part.kind part.tokens
+unfoldable pub heard_in : List Words → Piece → Heard
+heard_in kinds part = heard_of kinds part.kind part.tokens
 
 abbrev pub unread_at : Heard → Option ℕ
 unread_at (Says said) = None
@@ -66,14 +69,14 @@ sentence_at line (Says said) = Some (record { said = said; line = line })
 sentence_at line (Unread at) = None
 sentence_at line (Reserved at) = None
 
-abbrev pub unread_in : Piece → Option ℕ
-unread_in part = unread_at (heard_in part)
+abbrev pub unread_in : List Words → Piece → Option ℕ
+unread_in kinds part = unread_at (heard_in kinds part)
 
-abbrev pub reserved_in : Piece → Option ℕ
-reserved_in part = reserved_at (heard_in part)
+abbrev pub reserved_in : List Words → Piece → Option ℕ
+reserved_in kinds part = reserved_at (heard_in kinds part)
 
-abbrev pub sentence_in : Piece → Option Sentence
-sentence_in part = sentence_at (line_of part) (heard_in part)
+abbrev pub sentence_in : List Words → Piece → Option Sentence
+sentence_in kinds part = sentence_at (line_of part) (heard_in kinds part)
 
 -- refused at a line, if there is one
 abbrev pub or_refused : FaultCode → Option ℕ → Result (List Sentence) Fault → Result (List Sentence) Fault
@@ -81,12 +84,12 @@ or_refused code None next = next
 or_refused code (Some line) next = Err (record { code = code; line = line })
 
 -- the sentences of these parts, or the refusal that stands
-abbrev pub read_parts : List Piece → Result (List Sentence) Fault
-read_parts parts =
-    or_refused NumberOutOfRange (lowest bad_literal_of parts)
-    (or_refused NotUnderstood (lowest unread_in parts)
-    (or_refused ReservedWord (lowest reserved_in parts) (Ok (filter_map sentence_in parts))))
+abbrev pub read_parts : List Words → List Piece → Result (List Sentence) Fault
+read_parts kinds parts =
+    or_refused NumberOutOfRange (lowest (bad_literal_of kinds) parts)
+    (or_refused NotUnderstood (lowest (unread_in kinds) parts)
+    (or_refused ReservedWord (lowest (reserved_in kinds) parts) (Ok (filter_map (sentence_in kinds) parts))))
 
 -- the sentences that tokens spell, or the refusal that stands
 abbrev pub read_of : List Token → Result (List Sentence) Fault
-read_of tokens = read_parts (parts_of tokens)
+read_of tokens = read_parts (kinds_of_value (parts_of tokens)) (parts_of tokens)

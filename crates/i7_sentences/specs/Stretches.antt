@@ -7,11 +7,12 @@ use Rattle.i7_lexer.specs.declared.token.TokenKind.TheVariants.{Text, Word, Mark
 use Rattle.i7_sentences.specs.Bodies.{Phrase, body_lines}
 use Rattle.i7_sentences.specs.BracketedWords.{has_bad_bracket}
 use Rattle.i7_sentences.specs.Cuts.{Piece, line_in}
-use Rattle.i7_sentences.specs.Forms.{all_forms}
 use Rattle.i7_sentences.specs.Literals.{is_out_of_range}
 use Rattle.i7_sentences.specs.Lowest.{lowest}
-use Rattle.i7_sentences.specs.Matching.{Found, lowest_fit}
+use Rattle.i7_sentences.specs.Matching.{Found}
+use Rattle.i7_sentences.specs.Names.{Words}
 use Rattle.i7_sentences.specs.RuleHeads.{body_tokens, head_in, is_rule_form}
+use Rattle.i7_sentences.specs.ValueFits.{read_with}
 use Rattle.i7_sentences.specs.declared.part.PartKind.{PartKind}
 use Rattle.i7_sentences.specs.declared.part.PartKind.TheVariants.{Title, Heading, Sentence}
 use Rattle.i7_sentences.specs.declared.rule_head.Head.{Head}
@@ -42,13 +43,13 @@ read_stretches tokens None = whole tokens ∷ []
 read_stretches tokens (Some found) = if is_rule_form found.variant.form then rule_stretches tokens (head_in tokens) else whole tokens ∷ []
 
 -- in titles and headings none is told
-abbrev pub kind_stretches : PartKind → List Token → List Stretch
-kind_stretches Title tokens = []
-kind_stretches Heading tokens = []
-kind_stretches Sentence tokens = read_stretches tokens (lowest_fit all_forms tokens)
+abbrev pub kind_stretches : List Words → PartKind → List Token → List Stretch
+kind_stretches kinds Title tokens = []
+kind_stretches kinds Heading tokens = []
+kind_stretches kinds Sentence tokens = read_stretches tokens (read_with kinds tokens)
 
-abbrev pub stretches_of : Piece → List Stretch
-stretches_of part = kind_stretches part.kind part.tokens
+abbrev pub stretches_of : List Words → Piece → List Stretch
+stretches_of kinds part = kind_stretches kinds part.kind part.tokens
 
 -- a literal out of range, or a text with one between its brackets
 abbrev pub holds_bad_literal_kind : TokenKind → Bool
@@ -64,5 +65,5 @@ abbrev pub bad_literal_in : Stretch → Option ℕ
 bad_literal_in stretch = if list_any holds_bad_literal stretch.tokens then Some stretch.line else None
 
 -- the lowest line of such a stretch of a part
-unfoldable pub bad_literal_of : Piece → Option ℕ
-bad_literal_of part = lowest bad_literal_in (stretches_of part)
+unfoldable pub bad_literal_of : List Words → Piece → Option ℕ
+bad_literal_of kinds part = lowest bad_literal_in (stretches_of kinds part)

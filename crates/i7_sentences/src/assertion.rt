@@ -14,7 +14,8 @@ use crate::names::names_of;
 use crate::rule_listing::{listed_first, listed_last, not_listed};
 use crate::scene_change::{SceneEdge, scene_change};
 use crate::tagged::Tagged;
-use crate::{Assertion, Being, Form, Holder, Side, Way};
+use crate::value_assertion::{has_value, kind_of_value, usually_value, value_of, values};
+use crate::{Assertion, Being, Form, Holder, Side, Way, WordList};
 use std::alloc::{AllocError, Global};
 use world_meaning::{Direction, Rel, TextBytes};
 
@@ -283,14 +284,15 @@ fn are(alloc: Global, letters: &[&[Tagged<'_>]]) -> Result<Option<Assertion>, Al
     }
 }
 
-/// What the form says with these letters, if it is part of the language so far.
+/// What the form says with these letters, if it is part of the language so far, where these kinds of value are declared.
 #[tactic(auto, unfolding(crate::specs::Assertions::assertion_of))]
 pub fn assertion_of(
     alloc: Global,
+    kinds: &[WordList],
     form: Form,
     letters: &[&[Tagged<'_>]],
 ) -> Result<Option<Assertion>, AllocError>
-    ensures { IfOk result (λ said. said ≡ assertion_of form (map (λ letter. letter.now) letters.now)) }
+    ensures { IfOk result (λ said. said ≡ assertion_of kinds.now form (map (λ letter. letter.now) letters.now)) }
 {
     match form {
         Form::Description => Ok(description(alloc, letters)?),
@@ -305,6 +307,11 @@ pub fn assertion_of(
         Form::Rulebook => Ok(rulebook(alloc, letters)?),
         Form::Scene => Ok(scene(alloc, false, letters)?),
         Form::RecurringScene => Ok(scene(alloc, true, letters)?),
+        Form::ValueKind => Ok(kind_of_value(alloc, letters)?),
+        Form::Values => Ok(values(alloc, kinds, letters)?),
+        Form::HasValue => Ok(has_value(alloc, letters)?),
+        Form::UsuallyValue => Ok(usually_value(alloc, letters)?),
+        Form::ValueOf => Ok(value_of(alloc, letters)?),
         Form::KindOfKind => Ok(kind_of_kind(alloc, letters)?),
         Form::CanBe => Ok(can_be(alloc, letters)?),
         Form::CanBeEither => Ok(can_be_either(alloc, letters)?),

@@ -49,6 +49,16 @@ pub enum Form {
     Scene,
     /// `the storm is a recurring scene`
     RecurringScene,
+    /// `colour is a kind of value`
+    ValueKind,
+    /// `the colours are red, green and blue`
+    Values,
+    /// `a ball has a colour`
+    HasValue,
+    /// `the colour of a ball is usually red`
+    UsuallyValue,
+    /// `the colour of the ball is red`
+    ValueOf,
     /// `a lamp is a kind of device`
     KindOfKind,
     /// `a device can be broken`
@@ -153,9 +163,9 @@ const DESCRIPTION: Piece = Word(Keyword::Description);
 
 const NUMBER: Piece = Word(Keyword::Number);
 
-/// The forms, the lowest first. Each is its variants: where several fit a sentence, that with the
-/// shortest letters is read, and of equally short ones the first.
-pub const FORMS: [&[(Form, &[Piece])]; 30] = [
+/// The forms that are tried before those that speak of kinds of value, the lowest first. Each is its variants:
+/// where several fit a sentence, that with the shortest letters is read, and of equally short ones the first.
+pub const LOWER_FORMS: [&[(Form, &[Piece])]; 18] = [
     &[(Form::Description, &[TEXT])],
     &[(
         Form::Understand,
@@ -258,6 +268,10 @@ pub const FORMS: [&[(Form, &[Piece])]; 30] = [
             &[NAME, IS, A, Word(Keyword::Recurring), SCENE],
         ),
     ],
+];
+
+/// The forms that are tried after them, the lowest first.
+pub const HIGHER_FORMS: [&[(Form, &[Piece])]; 12] = [
     &[(
         Form::KindOfKind,
         &[NAME, IS, A, Word(Keyword::Kind), OF, NAME],

@@ -3,11 +3,16 @@ ghost use Rattle.std.specs.Prelude.{◌≡◌, ◌≢◌, ◌⊎◌, Bool, List,
 ghost use Rattle.i7_lexer.specs.Rising.{LinesRise};
 ghost use Rattle.i7_lexer.specs.declared.token.Token.{Token};
 ghost use Rattle.i7_sentences.specs.Cuts.{Piece, cut};
-ghost use Rattle.i7_sentences.specs.Forms.{IsReading, IsUnread, Variant, all_forms};
+ghost use Rattle.i7_sentences.specs.DeclaredKinds.{AreKinds};
+ghost use Rattle.i7_sentences.specs.Forms.{IsReading, IsUnread, Variant};
 ghost use Rattle.i7_sentences.specs.HeadWords.{IsParted, behind_first, in_front_of};
+ghost use Rattle.i7_sentences.specs.KindsOfValue.{kinds_of_value};
 ghost use Rattle.i7_sentences.specs.Matching.{Found, lowest_fit};
+ghost use Rattle.i7_sentences.specs.Names.{Words};
 ghost use Rattle.i7_sentences.specs.Seams.{IsCut, IsOnlyCut};
 ghost use Rattle.i7_sentences.specs.Sources.{HasSentences, IsRefused, IsSpeaking};
+ghost use Rattle.i7_sentences.specs.ValueFits.{read_with};
+ghost use Rattle.i7_sentences.specs.ValueForms.{IsReadWith, IsUnreadWith};
 ghost use Rattle.i7_sentences.specs.declared.keyword.Keyword.{Keyword};
 ghost use Rattle.i7_sentences.specs.declared.sentence.Sentence.{Sentence};
 ghost use Rattle.world_meaning.specs.declared.fault.Fault.{Fault};
@@ -25,13 +30,16 @@ pub fn heads_are_parted_at_the_first()
     ensures { (keyword : Keyword) (words : List Token) → IsParted keyword words (in_front_of keyword words) (behind_first keyword words) }
 {}
 
-/// No words have two readings, whatever the forms.
+/// No words have two readings, whatever the forms and whatever kinds of value are declared.
 pub fn one_reading()
-    ensures { (forms : List (List Variant)) (words : List Token) (v w : Variant) (a b : List (List Token)) → IsReading forms words v a → IsReading forms words w b → (v ≡ w) × (a ≡ b) }
+    ensures with_kinds { (kinds : List Words) (words : List Token) (v w : Variant) (a b : List (List Token)) → IsReadWith kinds words v a → IsReadWith kinds words w b → (v ≡ w) × (a ≡ b) }
+    ensures forms { (forms : List (List Variant)) (words : List Token) (v w : Variant) (a b : List (List Token)) → IsReading forms words v a → IsReading forms words w b → (v ≡ w) × (a ≡ b) }
 {}
 
 /// All words have a reading or are unread, and none both, whatever the forms.
 pub fn read_or_unread()
+    ensures with_kinds { (kinds : List Words) (words : List Token) → ((v : Variant) × (letters : List (List Token)) × IsReadWith kinds words v letters) ⊎ IsUnreadWith kinds words }
+    ensures not_both { (kinds : List Words) (words : List Token) (v : Variant) (letters : List (List Token)) → IsReadWith kinds words v letters → IsUnreadWith kinds words → ⊥ }
     ensures one { (forms : List (List Variant)) (words : List Token) → ((v : Variant) × (letters : List (List Token)) × IsReading forms words v letters) ⊎ IsUnread forms words }
     ensures never_both { (forms : List (List Variant)) (words : List Token) (v : Variant) (letters : List (List Token)) → IsReading forms words v letters → IsUnread forms words → ⊥ }
 {}
@@ -39,6 +47,7 @@ pub fn read_or_unread()
 /// What the definitions find from left to right is the reading, whatever the forms, and where they find
 /// nothing the words are unread: so it is for the heads of rules and for phrases too.
 pub fn found_is_read()
+    ensures with_kinds { (kinds : List Words) (words : List Token) (found : Found) → read_with kinds words ≡ Some found → IsReadWith kinds words found.variant found.letters }
     ensures some { (forms : List (List Variant)) (words : List Token) (found : Found) → lowest_fit forms words ≡ Some found → IsReading forms words found.variant found.letters }
     ensures none { (forms : List (List Variant)) (words : List Token) → lowest_fit forms words ≡ None → IsUnread forms words }
 {}
@@ -62,10 +71,16 @@ pub fn spelled_or_refused()
 /// A form that is part of the language says something wherever it is the reading of a part, so that the part
 /// is a sentence or has a reserved word in a name, but for a text that may not describe.
 pub fn forms_that_fit_speak()
-    ensures { (part : Piece) (variant : Variant) (letters : List (List Token)) → IsReading all_forms part.tokens variant letters → IsSpeaking variant part }
+    ensures { (kinds : List Words) (part : Piece) (variant : Variant) (letters : List (List Token)) → IsReadWith kinds part.tokens variant letters → IsSpeaking kinds variant part }
 {}
 
 /// The lines of sentences rise where those of their tokens do.
 pub fn sentence_lines_rise()
     ensures { (tokens : List Token) (sentences : List Sentence) → LinesRise (λ t. t.line) tokens → HasSentences tokens sentences → LinesRise (λ s. s.line) sentences }
+{}
+
+/// The kinds of value of a source are those that its sentences declare which no lower form reads, in order; there are none where a
+/// sentence says of value itself that it is a kind.
+pub fn kinds_of_value_are_declared()
+    ensures { (parts : List Piece) → AreKinds parts (kinds_of_value parts) }
 {}

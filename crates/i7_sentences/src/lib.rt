@@ -25,6 +25,7 @@ mod grammar_sentence;
 mod head_words;
 mod heard;
 mod keyword;
+mod kinds_of_value;
 mod laws;
 mod letter;
 mod literal;
@@ -37,6 +38,7 @@ mod needed;
 mod part;
 mod phrase_form;
 mod phrase_mark;
+mod plural;
 mod reader;
 mod reading;
 mod reserved;
@@ -57,6 +59,10 @@ mod text_ifs;
 mod text_piece;
 mod text_reader;
 mod text_words;
+mod value_assertion;
+mod value_form;
+mod value_names;
+mod value_reading;
 mod word;
 mod word_list;
 
@@ -67,13 +73,13 @@ pub use body_order::{body_fault, reserved_line};
 pub use brackets::{behind_closing, in_front_of_closing};
 pub use class::{Class, PHRASES, State};
 pub use cut::HEADINGS;
-pub use form::{FORMS, Form, Piece};
+pub use form::{Form, HIGHER_FORMS, LOWER_FORMS, Piece};
 pub use grammar_sentence::Understanding;
 pub use keyword::{ARTICLES, KEYWORDS, Keyword, RESERVED};
 pub use laws::{
     cut_is_exact, forms_that_fit_speak, found_is_read, heads_are_parted_at_the_first,
-    one_list_of_sentences, one_reading, one_refusal, read_or_unread, sentence_lines_rise,
-    spelled_or_refused,
+    kinds_of_value_are_declared, one_list_of_sentences, one_reading, one_refusal, read_or_unread,
+    sentence_lines_rise, spelled_or_refused,
 };
 pub use low::lower_of;
 pub use name::{Name, NameArticle};
@@ -81,6 +87,7 @@ pub use names::Names;
 pub use part::{Part, PartKind};
 pub use phrase_form::{NowVerb, PHRASE_FORMS, PhraseForm, PhraseShape, shape_in};
 pub use phrase_mark::PhraseMark;
+pub use plural::{front_of, plural_of, with_end};
 pub use reader::read;
 pub use rule::{Rule, RuleBody, RuleBook, RulePhrase, RuleSubject};
 pub use rule_listing::{ListedIn, RuleListing};
@@ -89,4 +96,5 @@ pub use sentence::{Assertion, Being, Holder, Sentence, Side, Way};
 pub use spoken::Spoken;
 pub use text_piece::{TextPiece, TextPieces};
 pub use text_reader::{first_part, read_text};
+pub use value_form::{KIND_OF_VALUE, KindLetter, VALUE_FORMS, VALUE_ITSELF};
 pub use word_list::WordList;

@@ -142,7 +142,7 @@ fn can_take(piece: Piece, token: &Tagged<'_>) -> bool
 }
 
 /// Whether the first piece can take the first token.
-fn can_begin(pieces: &[Piece], tokens: &[Tagged<'_>]) -> bool
+pub fn can_begin(pieces: &[Piece], tokens: &[Tagged<'_>]) -> bool
     ensures { result ≡ can_begin pieces.now tokens.now }
 {
     match pieces {
@@ -259,6 +259,30 @@ pub fn fit<'a, 'b>(
         return Ok(None);
     }
     let mut letters = Vec::new(alloc);
+    if fits_from(pieces, tokens, tokens, told, &mut letters)? {
+        Ok(Some(letters))
+    } else {
+        Ok(None)
+    }
+}
+
+/// The same with words for a letter in front.
+#[tactic(auto, using(crate::proofs::Columns::never_fits))]
+pub fn fit_behind<'a, 'b>(
+    alloc: Global,
+    first: &'a [Tagged<'b>],
+    pieces: &[Piece],
+    tokens: &'a [Tagged<'b>],
+    told: &mut ColumnStack,
+) -> Result<Option<Vec<&'a [Tagged<'b>]>>, AllocError>
+    ensures { IfOk result (λ found. option_map (λ letters. map (λ letter. letter.now) letters.items) found ≡ option_map (λ letters. first.now ∷ letters) (first_fit pieces.now tokens.now)) }
+{
+    told.clear()?;
+    if !columns_behind(alloc, pieces, tokens, told)? {
+        return Ok(None);
+    }
+    let mut letters = Vec::new(alloc);
+    letters.push(first)?;
     if fits_from(pieces, tokens, tokens, told, &mut letters)? {
         Ok(Some(letters))
     } else {

@@ -5,8 +5,8 @@ ghost use Rattle.i7_sentences.specs.Needed.{first_word, is_lacking, other_words}
 use crate::Keyword;
 use crate::signs::Signs;
 
-/// Of each sentence form, in order, a word or mark that all of its variants have, if there is one.
-pub static NEEDED: [Option<Keyword>; 30] = [
+/// Of each lower sentence form, in order, a word or mark that all of its variants have, if there is one.
+pub static LOWER_NEEDED: [Option<Keyword>; 18] = [
     None,
     Some(Keyword::Understand),
     Some(Keyword::Before),
@@ -25,6 +25,10 @@ pub static NEEDED: [Option<Keyword>; 30] = [
     Some(Keyword::Action),
     Some(Keyword::Rulebook),
     Some(Keyword::Scene),
+];
+
+/// The same of the higher ones.
+pub static HIGHER_NEEDED: [Option<Keyword>; 12] = [
     Some(Keyword::Kind),
     Some(Keyword::Can),
     Some(Keyword::Called),

@@ -4,28 +4,30 @@ ghost use Rattle.std.specs.List.{filter_map};
 ghost use Rattle.world_meaning.specs.Faults.{out_of_memory};
 ghost use Rattle.i7_sentences.specs.Assertions.{assertion_of};
 ghost use Rattle.i7_sentences.specs.Cuts.{line_of, parts_of};
-ghost use Rattle.i7_sentences.specs.Forms.{all_forms};
+ghost use Rattle.i7_sentences.specs.KindsOfValue.{kinds_of_value};
 ghost use Rattle.i7_sentences.specs.Lowest.{lowest};
-ghost use Rattle.i7_sentences.specs.Matching.{lowest_fit};
 ghost use Rattle.i7_sentences.specs.Pieces.{piece_of, pieces_of};
 ghost use Rattle.i7_sentences.specs.Read.{heard_found, heard_in, named_heard, plain_heard, read_of, reserved_in, sentence_in, unread_in};
 ghost use Rattle.i7_sentences.specs.Reserved.{has_reserved_among};
 ghost use Rattle.i7_sentences.specs.Sources.{HasSentences, IsRefused};
 ghost use Rattle.i7_sentences.specs.Stretches.{bad_literal_in, bad_literal_of, read_stretches};
+ghost use Rattle.i7_sentences.specs.ValueFits.{read_with};
 
 use crate::assertion::assertion_of;
 use crate::body::line_in;
 use crate::column_stack::ColumnStack;
 use crate::cut::parts_of;
 use crate::heard::{Heard, HeardPart};
+use crate::kinds_of_value::kinds_of_value;
 use crate::low::lower_of;
-use crate::reading::{Reading, reading_of};
+use crate::reading::Reading;
 use crate::reserved::has_reserved_among;
 use crate::rule_form::is_rule_form;
 use crate::rule_reader::rule_part;
 use crate::stretch::bad_literal_in;
 use crate::tagged::with_tags;
-use crate::{Assertion, Part, PartKind, Sentence};
+use crate::value_reading::reading_with;
+use crate::{Assertion, Part, PartKind, Sentence, WordList};
 use i7_lexer::{Lexed, PackedToken};
 use std::alloc::{AllocError, Global};
 use world_meaning::{Fault, FaultCode};
@@ -61,31 +63,37 @@ fn named_heard(line: u32, is_reserved: bool, said: Assertion) -> Heard
 }
 
 /// What a sentence at this line says by its reading, which is no rule's.
-fn plain_heard(alloc: Global, line: u32, reading: &Reading<'_, '_>) -> Result<Heard, AllocError>
+fn plain_heard(
+    alloc: Global,
+    kinds: &[WordList],
+    line: u32,
+    reading: &Reading<'_, '_>,
+) -> Result<Heard, AllocError>
     ensures { IfOk result (λ heard. heard ≡ plain_heard line
         (has_reserved_among reading.now.pieces.now (map (λ letter. letter.now) reading.now.letters.items))
-        (assertion_of reading.now.form (map (λ letter. letter.now) reading.now.letters.items))) }
+        (assertion_of kinds.now reading.now.form (map (λ letter. letter.now) reading.now.letters.items))) }
 {
     let letters = reading.letters.as_slice();
-    match assertion_of(alloc, reading.form, letters)? {
+    match assertion_of(alloc, kinds, reading.form, letters)? {
         None => Ok(Heard::Unread(line)),
         Some(said) => Ok(named_heard(line, has_reserved_among(reading.pieces, letters), said)),
     }
 }
 
-/// What a sentence says.
+/// What a sentence says, where these kinds of value are declared.
 #[tactic(auto, using(crate::proofs::Lowest::lower_steps))]
 fn sentence_part(
     alloc: Global,
+    kinds: &[WordList],
     tokens: &[PackedToken],
     columns: &mut ColumnStack,
 ) -> Result<HeardPart, AllocError>
-    ensures heard { IfOk result (λ part. part.heard ≡ heard_found tokens.now (lowest_fit all_forms tokens.now)) }
-    ensures literals { IfOk result (λ part. part.bad_literal ≡ lowest bad_literal_in (read_stretches tokens.now (lowest_fit all_forms tokens.now))) }
+    ensures heard { IfOk result (λ part. part.heard ≡ heard_found kinds.now tokens.now (read_with kinds.now tokens.now)) }
+    ensures literals { IfOk result (λ part. part.bad_literal ≡ lowest bad_literal_in (read_stretches tokens.now (read_with kinds.now tokens.now))) }
 {
     let line = line_in(tokens);
     let words = with_tags(alloc, tokens)?;
-    match reading_of(alloc, words.as_slice(), columns)? {
+    match reading_with(alloc, kinds, words.as_slice(), columns)? {
         None => Ok(HeardPart {
             heard: Heard::Unread(line),
             bad_literal: bad_literal_in(line, tokens),
@@ -95,7 +103,7 @@ fn sentence_part(
                 return Ok(rule_part(alloc, tokens, words.as_slice())?);
             }
             Ok(HeardPart {
-                heard: plain_heard(alloc, line, &reading)?,
+                heard: plain_heard(alloc, kinds, line, &reading)?,
                 bad_literal: bad_literal_in(line, tokens),
             })
         }
@@ -106,37 +114,42 @@ fn sentence_part(
 #[tactic(auto, unfolding(crate::specs::Read::heard_in, crate::specs::Stretches::bad_literal_of))]
 fn heard_part(
     alloc: Global,
+    kinds: &[WordList],
     part: &Part<'_>,
     columns: &mut ColumnStack,
 ) -> Result<HeardPart, AllocError>
-    ensures heard { IfOk result (λ found. found.heard ≡ heard_in (piece_of part.now)) }
-    ensures literals { IfOk result (λ found. found.bad_literal ≡ bad_literal_of (piece_of part.now)) }
+    ensures heard { IfOk result (λ found. found.heard ≡ heard_in kinds.now (piece_of part.now)) }
+    ensures literals { IfOk result (λ found. found.bad_literal ≡ bad_literal_of kinds.now (piece_of part.now)) }
 {
     match part.kind {
         PartKind::Title | PartKind::Heading => Ok(HeardPart {
             heard: Heard::Says(Assertion::Aside),
             bad_literal: None,
         }),
-        PartKind::Sentence => Ok(sentence_part(alloc, part.tokens, columns)?),
+        PartKind::Sentence => Ok(sentence_part(alloc, kinds, part.tokens, columns)?),
     }
 }
 
 /// What all parts say.
 #[tactic(auto, using(crate::proofs::Lowest::lower_steps))]
-fn heard_parts(alloc: Global, parts: &[Part<'_>]) -> Result<HeardParts, AllocError>
-    ensures said { IfOk result (λ heard. heard.sentences.items ≡ filter_map sentence_in (pieces_of parts.now)) }
-    ensures literals { IfOk result (λ heard. heard.bad_literal ≡ lowest bad_literal_of (pieces_of parts.now)) }
-    ensures unread { IfOk result (λ heard. heard.unread ≡ lowest unread_in (pieces_of parts.now)) }
-    ensures reserved { IfOk result (λ heard. heard.reserved ≡ lowest reserved_in (pieces_of parts.now)) }
+fn heard_parts(
+    alloc: Global,
+    kinds: &[WordList],
+    parts: &[Part<'_>],
+    columns: &mut ColumnStack,
+) -> Result<HeardParts, AllocError>
+    ensures said { IfOk result (λ heard. heard.sentences.items ≡ filter_map (sentence_in kinds.now) (pieces_of parts.now)) }
+    ensures literals { IfOk result (λ heard. heard.bad_literal ≡ lowest (bad_literal_of kinds.now) (pieces_of parts.now)) }
+    ensures unread { IfOk result (λ heard. heard.unread ≡ lowest (unread_in kinds.now) (pieces_of parts.now)) }
+    ensures reserved { IfOk result (λ heard. heard.reserved ≡ lowest (reserved_in kinds.now) (pieces_of parts.now)) }
 {
-    let mut columns = ColumnStack::new(alloc);
     let mut sentences = Vec::new(alloc);
     let mut bad_literal = None;
     let mut unread = None;
     let mut reserved = None;
     let mut rest = parts;
     while let [part, after @ ..] = rest {
-        let found = heard_part(alloc, part, &mut columns)?;
+        let found = heard_part(alloc, kinds, part, columns)?;
         bad_literal = lower_of(bad_literal, found.bad_literal);
         match found.heard {
             Heard::Unread(line) => unread = lower_of(unread, Some(line)),
@@ -154,6 +167,18 @@ fn heard_parts(alloc: Global, parts: &[Part<'_>]) -> Result<HeardParts, AllocErr
         unread,
         reserved,
     })
+}
+
+/// What all parts say, where the kinds of value are declared that they declare.
+fn heard_source(alloc: Global, parts: &[Part<'_>]) -> Result<HeardParts, AllocError>
+    ensures said { IfOk result (λ heard. heard.sentences.items ≡ filter_map (sentence_in (kinds_of_value (pieces_of parts.now))) (pieces_of parts.now)) }
+    ensures literals { IfOk result (λ heard. heard.bad_literal ≡ lowest (bad_literal_of (kinds_of_value (pieces_of parts.now))) (pieces_of parts.now)) }
+    ensures unread { IfOk result (λ heard. heard.unread ≡ lowest (unread_in (kinds_of_value (pieces_of parts.now))) (pieces_of parts.now)) }
+    ensures reserved { IfOk result (λ heard. heard.reserved ≡ lowest (reserved_in (kinds_of_value (pieces_of parts.now))) (pieces_of parts.now)) }
+{
+    let mut columns = ColumnStack::new(alloc);
+    let kinds = kinds_of_value(alloc, parts, &mut columns)?;
+    Ok(heard_parts(alloc, kinds.as_slice(), parts, &mut columns)?)
 }
 
 /// Refuses at the line, if there is one.
@@ -177,7 +202,7 @@ fn read_through(alloc: Global, lexed: &Lexed) -> Result<Vec<Sentence>, Fault>
         Ok(parts) => parts,
         Err(refused) => return Err(memory(refused)),
     };
-    let heard = match heard_parts(alloc, parts.as_slice()) {
+    let heard = match heard_source(alloc, parts.as_slice()) {
         Ok(heard) => heard,
         Err(refused) => return Err(memory(refused)),
     };

@@ -1,23 +1,26 @@
 //! The reading of a sentence: the lowest form that fits, with the shortest letters.
 ghost use Rattle.std.specs.Prelude.{◌≡◌, ◌≤◌, length, map, option_map, true, IfOk};
 ghost use Rattle.std.specs.List.{list_all};
-ghost use Rattle.i7_sentences.specs.Forms.{all_forms, are_shorter};
+ghost use Rattle.i7_sentences.specs.Forms.{are_shorter, higher_forms, lower_forms};
 ghost use Rattle.i7_sentences.specs.Matching.{best_fit, first_fit, found_as, lowest_fit, preferred};
 ghost use Rattle.i7_sentences.specs.Found.{found_in};
 ghost use Rattle.i7_sentences.specs.Needed.{are_needed, needs};
 ghost use Rattle.i7_sentences.specs.Signs.{table_of};
 
 use crate::column_stack::ColumnStack;
-use crate::form::FORMS;
+use crate::form::{HIGHER_FORMS, LOWER_FORMS};
 use crate::matcher::{fit, is_passed_over};
-use crate::needed::{NEEDED, first_word, is_lacking, other_words};
-use crate::signs::{Signs, signs_of};
+use crate::needed::{HIGHER_NEEDED, LOWER_NEEDED, first_word, is_lacking, other_words};
+use crate::signs::Signs;
 use crate::tagged::Tagged;
 use crate::{Form, Keyword, Piece};
 use std::alloc::{AllocError, Global};
 
-/// The forms at one place of memory.
-static TABLE: [&[(Form, &[Piece])]; 30] = FORMS;
+/// The lower forms at one place of memory.
+static LOWER: [&[(Form, &[Piece])]; 18] = LOWER_FORMS;
+
+/// The higher forms.
+static HIGHER: [&[(Form, &[Piece])]; 12] = HIGHER_FORMS;
 
 /// How a sentence is read: a form's variant, and the words for its letters.
 #[derive(Drop)]
@@ -49,7 +52,7 @@ fn are_shorter(letters: &[&[Tagged<'_>]], others: &[&[Tagged<'_>]]) -> bool
 }
 
 /// The later reading only if its letters are shorter.
-fn preferred<'a, 'b>(
+pub fn preferred<'a, 'b>(
     first: Option<Reading<'a, 'b>>,
     later: Option<Reading<'a, 'b>>,
 ) -> Option<Reading<'a, 'b>>
@@ -183,16 +186,31 @@ pub fn lowest_fit<'a, 'b>(
     Ok(None)
 }
 
-/// How words are read: by the lowest form that fits, with the shortest letters over all of the
-/// form's variants. None: no form fits.
-#[tactic(auto, unfolding(crate::specs::Forms::all_forms))]
-pub fn reading_of<'a, 'b>(
+/// How words are read by the lower forms: by the lowest that fits, with the shortest letters over all of the
+/// form's variants. None: no such form fits.
+#[tactic(auto, unfolding(crate::specs::Forms::lower_forms))]
+pub fn lower_reading<'a, 'b>(
     alloc: Global,
+    signs: &Signs,
     tokens: &'a [Tagged<'b>],
     columns: &mut ColumnStack,
 ) -> Result<Option<Reading<'a, 'b>>, AllocError>
-    ensures { IfOk result (λ found. option_map found_in found ≡ lowest_fit all_forms tokens.now) }
+    requires { signs.now ≡ table_of tokens.now }
+    ensures { IfOk result (λ found. option_map found_in found ≡ lowest_fit lower_forms tokens.now) }
 {
-    let signs = signs_of(tokens);
-    Ok(lowest_fit(alloc, &TABLE, &NEEDED, &signs, tokens, columns)?)
+    Ok(lowest_fit(alloc, &LOWER, &LOWER_NEEDED, signs, tokens, columns)?)
+}
+
+/// The same by the higher forms.
+#[tactic(auto, unfolding(crate::specs::Forms::higher_forms))]
+pub fn higher_reading<'a, 'b>(
+    alloc: Global,
+    signs: &Signs,
+    tokens: &'a [Tagged<'b>],
+    columns: &mut ColumnStack,
+) -> Result<Option<Reading<'a, 'b>>, AllocError>
+    requires { signs.now ≡ table_of tokens.now }
+    ensures { IfOk result (λ found. option_map found_in found ≡ lowest_fit higher_forms tokens.now) }
+{
+    Ok(lowest_fit(alloc, &HIGHER, &HIGHER_NEEDED, signs, tokens, columns)?)
 }

@@ -16,6 +16,30 @@ pub enum Assertion {
         name: Name,
         is_recurring: bool,
     },
+    /// `colour is a kind of value`
+    ValueKind(Name),
+    /// `the colours are red, green and blue`: the kind's name as its declaration spells it, and its values in order
+    Values {
+        kind: Name,
+        values: Names,
+    },
+    /// `a ball has a colour`
+    HasValue {
+        kind: Name,
+        property: Name,
+    },
+    /// `the colour of a ball is usually red`
+    UsuallyValue {
+        property: Name,
+        kind: Name,
+        value: Name,
+    },
+    /// `the colour of the ball is red`
+    ValueOf {
+        property: Name,
+        object: Name,
+        value: Name,
+    },
     /// `a lamp is a kind of device`
     KindOfKind {
         kind: Name,

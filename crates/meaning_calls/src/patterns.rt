@@ -103,7 +103,7 @@ pub fn pattern(alloc: Global, scope: &Scope<'_>, text: &str) -> Result<String, A
         words.as_slice(),
     )? {
         Asked::Read(pattern) => printed(alloc, &pattern),
-        Asked::WrongPlace => format!(in alloc; "wrong place"),
+        Asked::WrongKind => format!(in alloc; "wrong kind"),
         Asked::TooMany => format!(in alloc; "too many"),
         Asked::Unread => format!(in alloc; "unread"),
     }
@@ -124,7 +124,7 @@ pub fn place(alloc: Global, scope: &Scope<'_>, text: &str) -> Result<String, All
         words.as_slice(),
     )? {
         Asked::Read(place) => aspect(alloc, &place),
-        Asked::WrongPlace => format!(in alloc; "wrong place"),
+        Asked::WrongKind => format!(in alloc; "wrong kind"),
         Asked::TooMany => format!(in alloc; "too many"),
         Asked::Unread => format!(in alloc; "unread"),
     }

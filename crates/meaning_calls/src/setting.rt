@@ -14,7 +14,8 @@ pub enum Setting<'a> {
     Repeat(&'a str),
 }
 
-/// What a name stands for that is of this sort and number. `first` and `second` are the names of an either-or property.
+/// What a name stands for that is of this sort and number. `first` and `second` are the names of an either-or property, `valuekind`
+/// that of a kind of value.
 fn meaning(sort: &str, number: u8) -> Option<Meaning> {
     match sort {
         "object" => Some(Meaning::Object(ObjNo::new(u16::from(number)))),
@@ -24,6 +25,7 @@ fn meaning(sort: &str, number: u8) -> Option<Meaning> {
         "number" => Some(Meaning::Number(number)),
         "variable" => Some(Meaning::Variable(number)),
         "scene" => Some(Meaning::Scene(number)),
+        "valuekind" => Some(Meaning::ValueKind(number)),
         _ => None,
     }
 }
@@ -38,13 +40,23 @@ fn numbered<'a>(sort: &str, said: &'a str) -> Option<Setting<'a>> {
     Some(Setting::Name(meaning(sort, number)?, name))
 }
 
+/// A value's name, behind the number of its kind of value and its own: `0 2 pale green`.
+fn valued<'a>(said: &'a str) -> Option<Setting<'a>> {
+    let (kind, rest) = said.split_once(' ')?;
+    let (value, name) = rest.split_once(' ')?;
+    let kind = kind.parse::<u8>().ok()?;
+    let value = value.parse::<u8>().ok()?;
+    Some(Setting::Name(Meaning::Value(kind, value), name))
+}
+
 impl<'a> Setting<'a> {
     /// The setting that a text says.
     pub fn of(text: &'a str) -> Option<Setting<'a>> {
         let (sort, said) = text.split_once(' ')?;
-        if sort == "repeat" {
-            return Some(Setting::Repeat(said));
+        match sort {
+            "repeat" => Some(Setting::Repeat(said)),
+            "value" => valued(said),
+            _ => numbered(sort, said),
         }
-        numbered(sort, said)
     }
 }

@@ -86,6 +86,7 @@ const CODES: &[(FaultCode, &str)] = &[
     (FaultCode::TooMany, "C12 TooMany"),
     (FaultCode::NoRoom, "C13 NoRoom"),
     (FaultCode::NumberOutOfRange, "C15 NumberOutOfRange"),
+    (FaultCode::NoValues, "C16 NoValues"),
 ];
 
 /// Each fault of a story file, as it is told.

@@ -13,6 +13,7 @@ mod sentences;
 mod spoken;
 mod texts;
 mod tokens;
+mod values;
 
 use phrases::phrases_told;
 use rules::rule_told;

@@ -1,5 +1,6 @@
 //! What assertions on kinds, properties, variables, rulebooks, scenes and numbers say.
 use crate::names::{add, add_declared, add_name, add_number, add_pair};
+use crate::values::add_values;
 use i7_sentences::{Assertion, Name};
 use std::alloc::{AllocError, Global};
 
@@ -22,7 +23,7 @@ fn scene_name(is_recurring: bool) -> &'static [u8] {
     if is_recurring { b"recurring" } else { b"scene" }
 }
 
-/// Adds what an assertion of a number says, nothing of another.
+/// Adds what an assertion of a number or on kinds of value says, nothing of another.
 fn add_numbered(alloc: Global, out: &mut Vec<u8>, said: &Assertion) -> Result<(), AllocError> {
     match said {
         Assertion::NumberOf {
@@ -45,11 +46,11 @@ fn add_numbered(alloc: Global, out: &mut Vec<u8>, said: &Assertion) -> Result<()
             add_pair(out, property, b" usually of", kind)?;
             add_number(alloc, out, *number)
         }
-        _ => Ok(()),
+        _ => add_values(out, said),
     }
 }
 
-/// Adds what an assertion on kinds, properties, variables, rulebooks, scenes or numbers says, nothing of another.
+/// Adds what an assertion on kinds, properties, variables, rulebooks, scenes, numbers or kinds of value says, nothing of another.
 pub fn add_plan(alloc: Global, out: &mut Vec<u8>, said: &Assertion) -> Result<(), AllocError> {
     match said {
         Assertion::Rulebook(name) => add_declared(out, b"rulebook", name),

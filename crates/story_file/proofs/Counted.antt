@@ -1,6 +1,8 @@
 -- What the names of sentences stand for that mean a tale is the tale's, and its rulebooks and scenes are few.
-use Rattle.std.proofs.Common.{◌≡◌, ◌∙◌, ap, sym, ◌+◌, ◌*◌, ◌≤◌, ◌<◌, subst, List, length, Ok, None, arith}
+use Rattle.std.proofs.Common.{◌≡◌, ◌∙◌, ap, sym, refl, ℕ, ◌+◌, ◌*◌, ◌≤◌, ◌<◌, subst, List, [], ◌∷◌, length, map, Option, Ok, None, arith}
+use Rattle.std.specs.Prelude.{get_or}
 use Rattle.std.proofs.lemmas.List.{length-map}
+use Rattle.world_meaning.specs.declared.declared.ValueKind.{ValueKind}
 use Rattle.world_meaning.specs.declared.declared.Declared.{Declared}
 use Rattle.world_meaning.specs.declared.needs.Needs.{Needs}
 use Rattle.world_meaning.specs.declared.tale.Tale.{Tale}
@@ -18,7 +20,11 @@ use Rattle.i7_kinds.proofs.Readiness.{kinds_many}
 use Rattle.i7_kinds.proofs.Bounds.{counted-source, earlier_none, first_none_both, frame_parts}
 use Rattle.i7_kinds.specs.Grants.{built_in_bases}
 use Rattle.i7_kinds.specs.Demands.{descriptions_of}
-use Rattle.i7_kinds.specs.KindClaims.{declared_by, givens_by, is_recurring_by, kind_names, kind_too_many, parents_of}
+use Rattle.i7_kinds.specs.KindClaims.{declared_by, flags_by, givens_by, is_recurring_by, kind_names, kind_too_many, numbers_by, parents_of}
+use Rattle.i7_kinds.specs.ValueKinds.{value_kinds_from}
+use Rattle.i7_kinds.specs.declared.grants.Given.{Given}
+use Rattle.i7_claims.specs.Listings.{values_listed}
+use Rattle.i7_names.specs.Numbering.{counts_listed}
 use Rattle.i7_kinds.specs.Knowns.{knowns_of}
 use Rattle.i7_kinds.specs.Suits.{first_room}
 use Rattle.i7_kinds.specs.Actions.{actions_said, told_with}
@@ -80,6 +86,10 @@ countable sentences tale meant = let few = few_by (claims_of sentences) (claimed
 
 -- ---- what names stand for
 
+-- how many values a kind of value has
+abbrev pub count_in : List ValueKind → ℕ → ℕ
+count_in kinds q = get_or (map (λ kind. length kind.names) kinds) q 0
+
 -- what there is of a tale; its number properties and variables are counted by their names
 abbrev pub counts_of : List Sentence → Tale → Counts
 counts_of sentences tale = record {
@@ -89,6 +99,7 @@ counts_of sentences tale = record {
   numbers = (counts_in sentences).numbers;
   variables = (counts_in sentences).variables;
   scenes = length tale.declared.scenes;
+  values = λ q. count_in tale.declared.values q;
 }
 
 -- so many of each sort, or more
@@ -99,6 +110,7 @@ record IsMore (few many : Counts) : Type 0 where
   numbers : few.numbers ≤ many.numbers
   variables : few.variables ≤ many.variables
   scenes : few.scenes ≤ many.scenes
+  values : (q : ℕ) → few.values q ≤ many.values q
 
 more_there : (few many : Counts) → IsMore few many → (m : Meaning) → IsThere few m → IsThere many m
 more_there few many more (meaning.Object o) is = omega (arith, more.objects, is)
@@ -107,6 +119,8 @@ more_there few many more (meaning.Quality p side) is = omega (arith, more.qualit
 more_there few many more (meaning.Number p) is = omega (arith, more.numbers, is)
 more_there few many more (meaning.Variable v) is = omega (arith, more.variables, is)
 more_there few many more (meaning.Scene scene) is = omega (arith, more.scenes, is)
+more_there few many more (meaning.ValueKind q) is = omega (arith, more.values q, is)
+more_there few many more (meaning.Value q value) is = omega (arith, more.values q, is)
 
 many_kinds : (claims : List Claim) → length (kind_names claims) ≤ length (declared_by claims).kinds
 many_kinds claims = omega (arith, kind_names_counted claims, parents_are_kinds (kind_names claims) claims)
@@ -117,6 +131,17 @@ some_kinds claims = omega (arith, kinds_many claims)
 many_flags : (claims : List Claim) → length (names_as sort.EitherOr claims) ≤ length (declared_by claims).flags
 many_flags claims =
     omega (arith, flags_counted (parents_of (kind_names claims) claims) (kinds_many claims) (givens_by claims) 0 built_in_bases (names_as sort.EitherOr claims))
+
+counts_kept : (kinds : List (Option ℕ)) (givens : List Given) (from : ℕ) (claims : List Claim) (names : List (List ℕ))
+    → map (λ (q : ValueKind). length q.names) (value_kinds_from kinds givens from claims names) ≡ counts_listed claims names
+counts_kept kinds givens from claims [] = refl
+counts_kept kinds givens from claims (name ∷ names) = ap (λ (counts : List ℕ). length (values_listed claims name) ∷ counts) (counts_kept kinds givens (from + 1) claims names)
+
+same_count : (claims : List Claim) (q : ℕ) → get_or (counts_listed claims (names_as sort.ValueKind claims)) q 0 ≤ count_in (declared_by claims).values q
+same_count claims q =
+    let same = counts_kept (parents_of (kind_names claims) claims) (givens_by claims) (length (flags_by claims) + length (numbers_by claims)) claims (names_as sort.ValueKind claims) in
+    let alike : count_in (declared_by claims).values q ≡ get_or (counts_listed claims (names_as sort.ValueKind claims)) q 0 = ap (λ (counts : List ℕ). get_or counts q 0) same in
+    omega (arith, alike)
 
 -- of the tale there is as much as its sentences name
 as_much : (sentences : List Sentence) (tale : Tale) → tale_said sentences ≡ Ok tale → IsMore (counts_in sentences) (counts_of sentences tale)
@@ -131,6 +156,7 @@ as_much sentences tale meant =
       numbers = omega arith;
       variables = omega arith;
       scenes = omega (arith, scenes_counted sentences tale meant);
+      values = λ q. subst (λ (d : Declared). get_or (counts_listed claims (names_as sort.ValueKind claims)) q 0 ≤ count_in d.values q) is.1 (same_count claims q);
     }
 
 pub names_are_there : (sentences : List Sentence) (tale : Tale) → tale_said sentences ≡ Ok tale → AreThere (counts_of sentences tale) (names_in sentences).meanings (names_in sentences).plurals

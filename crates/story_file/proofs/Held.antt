@@ -25,13 +25,14 @@ use Rattle.object_words.specs.Words.{more_words, words_for}
 use Rattle.i7_claims.specs.Claims.{claims_of}
 use Rattle.i7_kinds.specs.Demands.{descriptions_of, description_of, first_target, implied_in, implied_leads, is_exit, is_wrong, line_at, line_of_description, stated_in, stated_leads, subject_of, target_of, way_back, way_there, way_through, wrong_after, wrong_kind}
 use Rattle.i7_claims.specs.Firsts.{first_of}
-use Rattle.i7_kinds.specs.KindClaims.{declared_by, is_recurring_by, kind_cycle, kind_names, kind_too_many, parents_of, scenes_of, starts_of}
+use Rattle.i7_kinds.specs.KindClaims.{declared_by, givens_by, is_recurring_by, kind_cycle, kind_names, kind_too_many, parents_of, scenes_of, starts_of}
 use Rattle.i7_kinds.specs.Knowns.{is_of, is_parted_at, kinds_known, kinds_of, known_at, knowns_of, off_path}
 use Rattle.i7_kinds.specs.Places.{Places, holder_cycle, places_by, put}
 use Rattle.i7_claims.specs.Scans.{earlier}
-use Rattle.i7_claims.specs.Sorts.{built_in_either_ors, name_too_many, names_as, too_many_as}
+use Rattle.i7_claims.specs.Sorts.{built_in_either_ors, list_too_long, name_too_many, names_as, too_many_as}
 use Rattle.i7_claims.specs.Statements.{NameAt, named_by, stated_by}
 use Rattle.i7_kinds.specs.Suits.{first_room, unsuited, with_player}
+use Rattle.i7_kinds.specs.ValueKinds.{AreFewValues}
 use Rattle.i7_kinds.specs.Values.{Values, values_by}
 use Rattle.i7_kinds.specs.declared.values.Bearer.TheVariants as bearer
 use Rattle.i7_kinds.specs.LongNames.{longer_name}
@@ -50,14 +51,15 @@ use Rattle.i7_kinds.specs.declared.ways.Target.{Target}
 use Rattle.i7_kinds.proofs.Bounds.{NoFaults, counted-source, earlier_none, first_none_both, frame_parts, unmapped, unrefused}
 use Rattle.i7_kinds.proofs.Fines.{AreFine, base, kind_few, knowns_counted}
 use Rattle.i7_kinds.proofs.Granting.{either_ors_behind}
-use Rattle.i7_kinds.proofs.KindScans.{either_ors_few, names_few, numbers_few, parents_few, variables_few}
+use Rattle.i7_kinds.proofs.KindScans.{either_ors_few, names_few, numbers_few, parents_few, value_kinds_few, variables_few}
+use Rattle.i7_kinds.proofs.Valueless.{HaveValues, kinds_few, kinds_have}
 use Rattle.i7_kinds.proofs.Placed.{AreSuited, IsSuited, judged, places_counted, places_suited, places_tree, put_length}
 use Rattle.i7_claims.proofs.Ranged.{AreRanged, AreRangedSentences, source_ranged}
 use Rattle.i7_kinds.proofs.Ranged.{AreRangedValues, said_ranged, starts_in_range}
 use Rattle.i7_kinds.proofs.Readiness.{fine_of}
 use Rattle.i7_kinds.proofs.Rooted.{authors_behind, authors_rooted}
 use Rattle.story_file.proofs.Acted.{IsKept, acted, kept_with}
-use Rattle.story_file.proofs.MadeDeclarations.{Behind, behind_of, declared_held, declared_is, declared_with, kinds_many, kinds_with, starts_counted, suited_held}
+use Rattle.story_file.proofs.MadeDeclarations.{Behind, behind_of, declared_held, declared_is, declared_with, flags_with, kinds_many, kinds_with, numbers_with, starts_counted, suited_held, values_with}
 use Rattle.story_file.proofs.MadeObjects.{LeadToRooms, all_lead, all_placed, begins_held, entries_counted, kinds_counted, kinds_held, objects_kinds, objects_places, same_kinds, told}
 use Rattle.story_file.proofs.MadePlaces.{all_suited, all_whole, direction_is, direction_nowhere, kind_known, place_in_room, player_person, tree_with_player}
 use Rattle.story_format.specs.Holding.{has_few_words, has_short_texts, is_short, is_short_or_none}
@@ -284,15 +286,27 @@ sorts_fine : (claims : List Claim) → name_too_many claims ≡ None → (too_ma
 sorts_fine claims none =
     let a = earlier_none (too_many_as sort.EitherOr claims) _ none in
     let b = earlier_none (too_many_as sort.Number claims) _ a.1 in
-    (a.0, b.0, (earlier_none (too_many_as sort.Variable claims) (earlier (too_many_as sort.Rulebook claims) (too_many_as sort.Scene claims)) b.1).0)
+    (a.0, b.0, (earlier_none (too_many_as sort.Variable claims) _ b.1).0)
 
 pub few_by : (claims : List Claim) → name_too_many claims ≡ None → (length (names_as sort.Rulebook claims) ≤ 100) × (length (names_as sort.Scene claims) ≤ 50)
 few_by claims none =
     let a = earlier_none (too_many_as sort.EitherOr claims) _ none in
     let b = earlier_none (too_many_as sort.Number claims) _ a.1 in
-    let c = earlier_none (too_many_as sort.Variable claims) (earlier (too_many_as sort.Rulebook claims) (too_many_as sort.Scene claims)) b.1 in
-    let d = earlier_none (too_many_as sort.Rulebook claims) (too_many_as sort.Scene claims) c.1 in
-    (names_few sort.Rulebook claims [] (omega arith) d.0, names_few sort.Scene claims [] (omega arith) d.1)
+    let c = earlier_none (too_many_as sort.Variable claims) _ b.1 in
+    let d = earlier_none (too_many_as sort.Rulebook claims) _ c.1 in
+    let e = earlier_none (too_many_as sort.Scene claims) _ d.1 in
+    (names_few sort.Rulebook claims [] (omega arith) d.0, names_few sort.Scene claims [] (omega arith) e.0)
+
+-- nor kinds of value, nor values of one
+few_kinds_of_value : (claims : List Claim) → name_too_many claims ≡ None → (length (names_as sort.ValueKind claims) ≤ 100) × (list_too_long claims ≡ None)
+few_kinds_of_value claims none =
+    let a = earlier_none (too_many_as sort.EitherOr claims) _ none in
+    let b = earlier_none (too_many_as sort.Number claims) _ a.1 in
+    let c = earlier_none (too_many_as sort.Variable claims) _ b.1 in
+    let d = earlier_none (too_many_as sort.Rulebook claims) _ c.1 in
+    let e = earlier_none (too_many_as sort.Scene claims) _ d.1 in
+    let f = earlier_none (too_many_as sort.ValueKind claims) (list_too_long claims) e.1 in
+    (value_kinds_few claims f.0, f.1)
 
 -- what is known of a source without a refusal, its objects' places without the player's
 record Whole (parents : List (Option ℕ)) (knowns : List Known) (places : Places) (room : ℕ) (statements : List NumberedSentence) (count : ℕ) : Type 0 where
@@ -306,7 +320,7 @@ record Whole (parents : List (Option ℕ)) (knowns : List Known) (places : Place
   ways : wrong_kind parents knowns statements ≡ None
 
 abbrev made_with : Declared → List (Option ℕ) → List Known → Places → Values → Values → List Described → List NumberedSentence → Made
-made_with declared parents knowns places values usuals descriptions statements = record { parents = parents; kinds = kinds_of knowns; places = places; flags = declared.flags; numbers = declared.numbers; values = values; usuals = usuals; descriptions = descriptions; statements = statements }
+made_with declared parents knowns places values usuals descriptions statements = record { parents = parents; kinds = kinds_of knowns; places = places; flags = declared.flags; numbers = declared.numbers; value_kinds = declared.values; values = values; usuals = usuals; descriptions = descriptions; statements = statements }
 
 stands : (kinds : Kinds) (rooms : List Bool) (place : Option Place) → ((o : ℕ) → kinds.is_room o ≡ is_at rooms o) → IsSuited kinds 0 place → is_none place ≡ false → stands_in_room rooms place ≡ true
 stands kinds rooms None told h k = absurd cc
@@ -321,10 +335,10 @@ put_there (None ∷ places) place le = refl
 put_there (Some p ∷ places) place le = refl
 
 -- with what is declared behind the built-in kinds and properties
-objects_made : (b : Behind) (knowns : List Known) (places : Places) (room : ℕ) (values usuals : Values) (descriptions : List Described) (statements : List NumberedSentence) (mentions : List NameAt) → is_well_declared (declared_with b) ≡ true → AreRangedValues values → AreRangedValues usuals → Whole (kinds_with b) knowns places room statements (length mentions)
+objects_made : (b : Behind) (knowns : List Known) (places : Places) (room : ℕ) (values usuals : Values) (descriptions : List Described) (statements : List NumberedSentence) (mentions : List NameAt) → is_well_declared (declared_with b) ≡ true → HaveValues (values_with b) → AreRangedValues values → AreRangedValues usuals → Whole (kinds_with b) knowns places room statements (length mentions)
     → IsWellMade (record { declared = declared_with b; objects = objects_of (made_with (declared_with b) (kinds_with b) knowns (put places 0 (place_in_room room)) values usuals descriptions statements) 0 (entries_of mentions) })
 unfolding sorts_of
-objects_made b knowns places room values usuals descriptions statements mentions declared ranged usually w =
+objects_made b knowns places room values usuals descriptions statements mentions declared some_values ranged usually w =
     let S = kinds_with b in
     let placed = put places 0 (place_in_room room) in
     let m = made_with (declared_with b) S knowns placed values usuals descriptions statements in
@@ -343,7 +357,7 @@ objects_made b knowns places room values usuals descriptions statements mentions
       declared = declared;
       begins = subst (λ (ks : List ℕ). begin_rightly S (sorts_of S ks).rooms (objects_of m 0 entries) ≡ true) (sym kinds_same) begins;
       kinds = subst (λ (ks : List ℕ). list_all (is_kind_below n) ks ≡ true) (sym kinds_same) below;
-      suited = suited_held b m 0 entries (record { parents = refl; flags = refl; numbers = refl; values = ranged; usuals = usually });
+      suited = suited_held b m 0 entries (record { parents = refl; flags = refl; numbers = refl; value_kinds = refl; some_values = some_values; values = ranged; usuals = usually });
       placed = subst (λ (ks : List ℕ). are_well_placed (kinds_told (sorts_of S ks)) 0 (places_in (objects_of m 0 entries)) ≡ true) (sym kinds_same) (subst (λ (ps : Places). are_well_placed (kinds_told (sorts_of S (kinds_of knowns))) 0 ps ≡ true) (sym places_same) where_allowed);
       tree = subst (λ (ps : Places). IsTree (place_at ps)) (sym places_same) (tree_with_player b.kinds n knowns (length mentions) w.counted w.fine places w.suited room w.first (omega (arith, w.many)) w.tree);
       exits = subst (λ (ks : List ℕ). list_all (has_right_exits S (sorts_of S ks)) (objects_of m 0 entries) ≡ true) (sym kinds_same) (all_lead m (sorts_of S (kinds_of knowns)) 0 entries (lead_to_rooms S knowns whole statements w.ways));
@@ -403,13 +417,18 @@ objects_held claims keys statements mentions counted ranged none =
     let few_starts : length (starts_of claims (names_as sort.Variable claims)) ≤ 100 = omega (arith, variables_few claims sorts.2, starts_counted claims (names_as sort.Variable claims)) in
     let others = few_by claims many.1 in
     let few_scenes : length (scenes_of claims (names_as sort.Scene claims)) ≤ 50 = omega (arith, others.1, length-map (names_as sort.Scene claims) (is_recurring_by claims)) in
-    let declared = declared_held behind few few_properties (numbers_few claims sorts.1) few_starts few_scenes others.0 (starts_in_range claims (names_as sort.Variable claims) ranged) roots in
+    let values_of = few_kinds_of_value claims many.1 in
+    let first = length (flags_with behind) + length (numbers_with behind) in
+    let few_values : AreFewValues (values_with behind) = kinds_few (kinds_with behind) (givens_by claims) first claims (names_as sort.ValueKind claims) values_of.1 in
+    let some_values : HaveValues (values_with behind) = kinds_have (kinds_with behind) (givens_by claims) first claims fine.listed in
+    let declared = declared_held behind few few_properties (numbers_few claims sorts.1) few_starts few_scenes others.0 (starts_in_range claims (names_as sort.Variable claims) ranged) roots
+    values_of.0 few_values some_values in
     let whole = subst (λ (p : List (Option ℕ)). Whole p knowns (places_by keys claims) room.0 statements (length mentions)) kinds w in
     let placed = put (places_by keys claims) 0 (place_in_room room.0) in
     let values = values_by bearer.Objects s claims in
     let usuals = values_by bearer.Kinds s claims in
     let m = made_with (declared_with behind) (kinds_with behind) knowns placed values usuals descriptions statements in
-    let held : IsKept (tale_with (declared_with behind) (kinds_with behind) knowns placed values usuals descriptions statements mentions) = record { held = record { made = objects_made behind knowns (places_by keys claims) room.0 values usuals descriptions statements mentions declared (said_ranged bearer.Objects s claims ranged) (said_ranged bearer.Kinds s claims ranged) whole; texts = texts_held m mentions limits.0 limits.1 }; words = words_held m mentions limits.0 } in
+    let held : IsKept (tale_with (declared_with behind) (kinds_with behind) knowns placed values usuals descriptions statements mentions) = record { held = record { made = objects_made behind knowns (places_by keys claims) room.0 values usuals descriptions statements mentions declared some_values (said_ranged bearer.Objects s claims ranged) (said_ranged bearer.Kinds s claims ranged) whole; texts = texts_held m mentions limits.0 limits.1 }; words = words_held m mentions limits.0 } in
     let declares : declared_with behind ≡ declared_by claims = declared_is claims in
     let where_placed : placed ≡ with_player (places_by keys claims) found = sym (ap (with_player (places_by keys claims)) room.1) in
     subst IsKept (λ i. tale_with (declares i) (sym kinds i) knowns (where_placed i) values usuals descriptions statements mentions) held

@@ -18,9 +18,10 @@ use Rattle.i7_sentences.specs.Conditions.{is_condition}
 use Rattle.i7_sentences.specs.Cuts.{Piece, line_in, parts_of}
 use Rattle.i7_sentences.specs.Forms.{Variant}
 use Rattle.i7_sentences.specs.Keywords.{is_sign}
+use Rattle.i7_sentences.specs.KindsOfValue.{kinds_of_value}
 use Rattle.i7_sentences.specs.Literals.{digits_of, is_negative, literal_of, magnitude}
 use Rattle.i7_sentences.specs.Lowest.{lower_of}
-use Rattle.i7_sentences.specs.Names.{named_in, words_in}
+use Rattle.i7_sentences.specs.Names.{Words, named_in, words_in}
 use Rattle.i7_sentences.specs.Read.{named_heard, plain_heard}
 use Rattle.i7_sentences.specs.Reserved.{has_reserved_among}
 use Rattle.i7_sentences.specs.RuleBodies.{body_phrases, unread_line}
@@ -135,41 +136,46 @@ understood_ranged [] = tt
 understood_ranged (texts ∷ []) = tt
 understood_ranged (texts ∷ meaning ∷ more ∷ rest) = tt
 
-form_ranged : (f : Form) (letters : List (List Token)) → IsWellFound (assertion_of f letters)
+form_ranged : (kinds : List Words) (f : Form) (letters : List (List Token)) → IsWellFound (assertion_of kinds f letters)
 unfolding assertion_of
-form_ranged form.Description (text ∷ []) = described_ranged (describing_text text)
-form_ranged form.UsuallyNumber (property ∷ kind ∷ number ∷ []) = number_ranged number
-form_ranged form.NumberOf (property ∷ object ∷ number ∷ []) = number_ranged number
-form_ranged form.VariableIs (variable ∷ number ∷ []) = number_ranged number
-form_ranged form.DescriptionOf (object ∷ text ∷ []) = object_ranged object (describing_text text)
-form_ranged form.DescriptionOf (article ∷ object ∷ text ∷ []) = object_ranged object (describing_text text)
-form_ranged form.WayTo (subject ∷ side ∷ room ∷ []) = way_ranged subject (side_direction side) room false
-form_ranged form.WayFrom (side ∷ room ∷ subject ∷ []) = way_ranged subject (side_direction side) room true
-form_ranged form.DoorTo (door ∷ side ∷ room ∷ other ∷ behind ∷ []) = door_ranged door (side_of (side_direction side) room) (side_of (side_direction other) behind)
-form_ranged form.ListedFirst (rule ∷ book ∷ []) = tt
-form_ranged form.ListedLast (rule ∷ book ∷ []) = tt
-form_ranged form.NotListed (rule ∷ []) = tt
-form_ranged (form.Action sort) (name ∷ []) = refl
-form_ranged (form.Action sort) (name ∷ noun ∷ []) = ap (nat_le 0) (asked_there noun)
-form_ranged (form.Action sort) (name ∷ noun ∷ second ∷ []) = (λ i. nat_le (asked_there second i) (asked_there noun i))
-form_ranged (form.ActionOnTwo sort) (name ∷ []) = refl
-form_ranged form.Rulebook (name ∷ []) = tt
-form_ranged form.Scene (name ∷ []) = tt
-form_ranged form.RecurringScene (name ∷ []) = tt
-form_ranged form.Understand letters = understood_ranged letters
-form_ranged form.SceneBegins letters = change_ranged edge.Begins letters
-form_ranged form.SceneEnds letters = change_ranged edge.Ends letters
-form_ranged form.KindOfKind (kind ∷ parent ∷ []) = tt
-form_ranged form.CanBe (kind ∷ first ∷ []) = tt
-form_ranged form.CanBeEither (kind ∷ first ∷ second ∷ []) = tt
-form_ranged form.NumberProperty (kind ∷ property ∷ []) = tt
-form_ranged form.Usually (kind ∷ adjectives ∷ []) = tt
-form_ranged form.Variable (name ∷ []) = tt
-form_ranged (form.Holds relation) (holder ∷ things ∷ []) = tt
-form_ranged (form.Held relation) (subjects ∷ holder ∷ []) = tt
-form_ranged (form.WhatHeld relation) (subjects ∷ what ∷ holder ∷ []) = tt
-form_ranged form.Is (subjects ∷ what ∷ []) = tt
-form_ranged _ _ = tt
+form_ranged kinds form.Description (text ∷ []) = described_ranged (describing_text text)
+form_ranged kinds form.UsuallyNumber (property ∷ kind ∷ number ∷ []) = number_ranged number
+form_ranged kinds form.NumberOf (property ∷ object ∷ number ∷ []) = number_ranged number
+form_ranged kinds form.VariableIs (variable ∷ number ∷ []) = number_ranged number
+form_ranged kinds form.DescriptionOf (object ∷ text ∷ []) = object_ranged object (describing_text text)
+form_ranged kinds form.DescriptionOf (article ∷ object ∷ text ∷ []) = object_ranged object (describing_text text)
+form_ranged kinds form.WayTo (subject ∷ side ∷ room ∷ []) = way_ranged subject (side_direction side) room false
+form_ranged kinds form.WayFrom (side ∷ room ∷ subject ∷ []) = way_ranged subject (side_direction side) room true
+form_ranged kinds form.DoorTo (door ∷ side ∷ room ∷ other ∷ behind ∷ []) = door_ranged door (side_of (side_direction side) room) (side_of (side_direction other) behind)
+form_ranged kinds form.ListedFirst (rule ∷ book ∷ []) = tt
+form_ranged kinds form.ListedLast (rule ∷ book ∷ []) = tt
+form_ranged kinds form.NotListed (rule ∷ []) = tt
+form_ranged kinds (form.Action sort) (name ∷ []) = refl
+form_ranged kinds (form.Action sort) (name ∷ noun ∷ []) = ap (nat_le 0) (asked_there noun)
+form_ranged kinds (form.Action sort) (name ∷ noun ∷ second ∷ []) = (λ i. nat_le (asked_there second i) (asked_there noun i))
+form_ranged kinds (form.ActionOnTwo sort) (name ∷ []) = refl
+form_ranged kinds form.Rulebook (name ∷ []) = tt
+form_ranged kinds form.Scene (name ∷ []) = tt
+form_ranged kinds form.RecurringScene (name ∷ []) = tt
+form_ranged kinds form.Understand letters = understood_ranged letters
+form_ranged kinds form.SceneBegins letters = change_ranged edge.Begins letters
+form_ranged kinds form.SceneEnds letters = change_ranged edge.Ends letters
+form_ranged kinds form.ValueKind (name ∷ []) = tt
+form_ranged kinds form.Values (plural ∷ values ∷ []) = tt
+form_ranged kinds form.HasValue (kind ∷ property ∷ []) = tt
+form_ranged kinds form.UsuallyValue (property ∷ kind ∷ value ∷ []) = tt
+form_ranged kinds form.ValueOf (property ∷ object ∷ value ∷ []) = tt
+form_ranged kinds form.KindOfKind (kind ∷ parent ∷ []) = tt
+form_ranged kinds form.CanBe (kind ∷ first ∷ []) = tt
+form_ranged kinds form.CanBeEither (kind ∷ first ∷ second ∷ []) = tt
+form_ranged kinds form.NumberProperty (kind ∷ property ∷ []) = tt
+form_ranged kinds form.Usually (kind ∷ adjectives ∷ []) = tt
+form_ranged kinds form.Variable (name ∷ []) = tt
+form_ranged kinds (form.Holds relation) (holder ∷ things ∷ []) = tt
+form_ranged kinds (form.Held relation) (subjects ∷ holder ∷ []) = tt
+form_ranged kinds (form.WhatHeld relation) (subjects ∷ what ∷ holder ∷ []) = tt
+form_ranged kinds form.Is (subjects ∷ what ∷ []) = tt
+form_ranged kinds _ _ = tt
 
 -- ---- what a part says
 
@@ -201,35 +207,35 @@ head_ranged tokens (Some head) =
     read_ranged (unread_line (line_in tokens) head.takes_one phrases) (lower_of (head_reserved (line_in tokens) head) (reserved_line phrases))
     (record { book = head.book; subject = head.subject; scene = head.scene; condition = head.condition; name = head.name; body = body_phrases (line_in tokens) phrases })
 
-form_heard : (tokens : List Token) (variant : Variant) (letters : List (List Token)) (is_rule : Bool) → IsWellHeard (if is_rule then rule_heard tokens else plain_heard (line_in tokens) (has_reserved_among variant.pieces letters) (assertion_of variant.form letters))
-form_heard tokens variant letters true = head_ranged tokens (head_in tokens)
-form_heard tokens variant letters false = plain_ranged (line_in tokens) (has_reserved_among variant.pieces letters) (assertion_of variant.form letters) (form_ranged variant.form letters)
+form_heard : (kinds : List Words) (tokens : List Token) (variant : Variant) (letters : List (List Token)) (is_rule : Bool) → IsWellHeard (if is_rule then rule_heard tokens else plain_heard (line_in tokens) (has_reserved_among variant.pieces letters) (assertion_of kinds variant.form letters))
+form_heard kinds tokens variant letters true = head_ranged tokens (head_in tokens)
+form_heard kinds tokens variant letters false = plain_ranged (line_in tokens) (has_reserved_among variant.pieces letters) (assertion_of kinds variant.form letters) (form_ranged kinds variant.form letters)
 
-words_ranged : (tokens : List Token) (said : Assertion) → SaysInWords tokens (heard.Says said) → IsWellSaid said
-words_ranged tokens said (inl reads) = subst IsWellHeard (sym reads.says) (form_heard tokens reads.variant reads.letters (is_rule_form reads.variant.form))
-words_ranged tokens said (inr unread) = absurd (let e = unread.1 in cc)
+words_ranged : (kinds : List Words) (tokens : List Token) (said : Assertion) → SaysInWords kinds tokens (heard.Says said) → IsWellSaid said
+words_ranged kinds tokens said (inl reads) = subst IsWellHeard (sym reads.says) (form_heard kinds tokens reads.variant reads.letters (is_rule_form reads.variant.form))
+words_ranged kinds tokens said (inr unread) = absurd (let e = unread.1 in cc)
 
 same_said : (said other : Assertion) → heard.Says said ≡ heard.Says other → said ≡ other
 same_said said other same = cc
 
-part_ranged : (part : Piece) (sentence : Sentence) (kind : PartKind) → Tells kind part.tokens (heard.Says sentence.said) → IsWellSaid sentence.said
-part_ranged part sentence Title says = subst IsWellSaid (sym (same_said sentence.said assertion.Aside says)) tt
-part_ranged part sentence Heading says = subst IsWellSaid (sym (same_said sentence.said assertion.Aside says)) tt
-part_ranged part sentence Said says = words_ranged part.tokens sentence.said says
+part_ranged : (kinds : List Words) (part : Piece) (sentence : Sentence) (kind : PartKind) → Tells kinds kind part.tokens (heard.Says sentence.said) → IsWellSaid sentence.said
+part_ranged kinds part sentence Title says = subst IsWellSaid (sym (same_said sentence.said assertion.Aside says)) tt
+part_ranged kinds part sentence Heading says = subst IsWellSaid (sym (same_said sentence.said assertion.Aside says)) tt
+part_ranged kinds part sentence Said says = words_ranged kinds part.tokens sentence.said says
 
 abbrev AreWellSaid : List Sentence → Type 0
 AreWellSaid [] = Unit {0}
 AreWellSaid (sentence ∷ sentences) = IsWellSaid sentence.said × AreWellSaid sentences
 
-parts_ranged : (parts : List Piece) (sentences : List Sentence) → AllZip IsSentence parts sentences → AreWellSaid sentences
-parts_ranged [] [] said = tt
-parts_ranged [] (sentence ∷ sentences) said = absurd said
-parts_ranged (part ∷ parts) [] said = absurd said
-parts_ranged (part ∷ parts) (sentence ∷ sentences) said =
-    (part_ranged part sentence part.kind (said.0).says, parts_ranged parts sentences said.1)
+parts_ranged : (kinds : List Words) (parts : List Piece) (sentences : List Sentence) → AllZip (IsSentence kinds) parts sentences → AreWellSaid sentences
+parts_ranged kinds [] [] said = tt
+parts_ranged kinds [] (sentence ∷ sentences) said = absurd said
+parts_ranged kinds (part ∷ parts) [] said = absurd said
+parts_ranged kinds (part ∷ parts) (sentence ∷ sentences) said =
+    (part_ranged kinds part sentence part.kind (said.0).says, parts_ranged kinds parts sentences said.1)
 
 said_well : (source : List ℕ) (sentences : List Sentence) → Says source sentences → AreWellSaid sentences
-said_well source sentences says = parts_ranged (parts_of says.tokens) sentences (says.reads).said
+said_well source sentences says = parts_ranged (kinds_of_value (parts_of says.tokens)) (parts_of says.tokens) sentences (says.reads).said
 
 -- ---- what a source says
 

@@ -3,7 +3,7 @@ use Rattle.std.specs.Prelude.{ℕ, List, ◌++◌, codes}
 use Rattle.std.specs.Fmt.{decimal}
 use Rattle.world_meaning.specs.declared.fault.Fault.{Fault}
 use Rattle.world_meaning.specs.declared.fault.FaultCode.{FaultCode}
-use Rattle.world_meaning.specs.declared.fault.FaultCode.TheVariants.{TooLong, NotText, Unclosed, BadIndent, NotUnderstood, ReservedWord, UnknownName, WrongKind, Twice, TwoPlaces, Cycle, TooMany, NoRoom, Memory, NumberOutOfRange}
+use Rattle.world_meaning.specs.declared.fault.FaultCode.TheVariants.{TooLong, NotText, Unclosed, BadIndent, NotUnderstood, ReservedWord, UnknownName, WrongKind, Twice, TwoPlaces, Cycle, TooMany, NoRoom, Memory, NumberOutOfRange, NoValues}
 
 -- the code and its name
 abbrev pub code_text : FaultCode → List ℕ
@@ -22,6 +22,7 @@ code_text TooMany = codes "C12 TooMany"
 code_text NoRoom = codes "C13 NoRoom"
 code_text Memory = codes "C14 Memory"
 code_text NumberOutOfRange = codes "C15 NumberOutOfRange"
+code_text NoValues = codes "C16 NoValues"
 
 -- the line, and what is wrong there
 abbrev pub fault_text : Fault → List ℕ

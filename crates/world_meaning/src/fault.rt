@@ -24,6 +24,7 @@ pub enum FaultCode {
     NoRoom,
     Memory,
     NumberOutOfRange,
+    NoValues,
 }
 
 impl FaultCode {
@@ -47,6 +48,7 @@ impl FaultCode {
             FaultCode::NoRoom => "C13 NoRoom",
             FaultCode::Memory => "C14 Memory",
             FaultCode::NumberOutOfRange => "C15 NumberOutOfRange",
+            FaultCode::NoValues => "C16 NoValues",
         }
     }
 }

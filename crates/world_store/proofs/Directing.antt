@@ -11,9 +11,10 @@ use Rattle.world_meaning.specs.Sight.{direction}
 use Rattle.play_meaning.specs.Seeing.{root_of}
 use Rattle.story_format.specs.Counts.{counts_of}
 use Rattle.story_format.specs.RuleChecks.{are_right_rules}
-use Rattle.story_format.specs.Checks.{are_distinct, are_right, are_right_objects, are_right_ways, is_right_frame, stand_rightly}
+use Rattle.story_format.specs.Checks.{are_distinct, are_first_right, are_right, are_right_objects, are_right_ways, is_right_frame, stand_rightly}
 use Rattle.story_format.specs.InPlay.{is_of_in}
 use Rattle.story_format.specs.Spells.{IsStory}
+use Rattle.story_format.specs.ValueChecks.{are_right_values}
 use Rattle.story_format.specs.WorldChecks.{is_right_world}
 use Rattle.story_format.specs.declared.tables.Entry.{Entry}
 use Rattle.story_format.specs.declared.tables.Tables.{Tables}
@@ -36,8 +37,9 @@ begun_at (parent ∷ parents) (Some k ∷ others) zero begun is = absurd cc
 begun_at (parent ∷ parents) (other ∷ others) (suc i) begun is = begun_at parents others i (and_parts (is_same_kind parent other) (begin_with_kinds parents others) begun).1 is
 
 frame_right : (t : Tables) → IsStory t → is_right_frame t ≡ true
-unfolding are_right
-frame_right t story = (last_of_five (is_right_frame t) (are_distinct t.strings) (are_right_objects t) (stand_rightly t) (are_right_ways t) story.right).0
+unfolding are_right are_first_right
+frame_right t story =
+    (last_of_five (is_right_frame t) (are_distinct t.strings) (are_right_objects t) (stand_rightly t) (are_right_ways t) (and_parts (are_first_right t) (are_right_values t) story.right).0).0
 
 world_right : (t : Tables) → IsStory t → is_right_world t.world ≡ true
 unfolding is_right_frame

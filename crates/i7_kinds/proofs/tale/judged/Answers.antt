@@ -37,3 +37,15 @@ objects_meant-requires-clause-few_flags c =
 pub declared_by-requires-clause-few_flags : goal.declared_by-requires-clause-few_flags
 declared_by-requires-clause-few_flags c =
     (ready_at c.args.scope.now c.args.claims.now c.args.statements.now _ (mentions_of c.args.mentions.now) _ c.in_ok-ways.ensures (c.as_slice-known.ensures.value ∙ c.in_ok-all.ensures.knowns) c.requires.scope c.requires.within c.requires.counted (sym c.in_ok-refused.ensures ∙ c.in_default.is)).few_flags
+
+pub objects_meant-requires-clause-few_numbers : goal.objects_meant-requires-clause-few_numbers
+objects_meant-requires-clause-few_numbers c =
+    (ready_at c.args.scope.now c.args.claims.now c.args.statements.now _ (mentions_of c.args.mentions.now) _ c.in_ok-ways.ensures (c.as_slice-known.ensures.value ∙ c.in_ok-all.ensures.knowns) c.requires.scope c.requires.within c.requires.counted (sym c.in_ok-refused.ensures ∙ c.in_default.is)).few_numbers
+
+pub objects_meant-requires-clause-few_values : goal.objects_meant-requires-clause-few_values
+objects_meant-requires-clause-few_values c =
+    (ready_at c.args.scope.now c.args.claims.now c.args.statements.now _ (mentions_of c.args.mentions.now) _ c.in_ok-ways.ensures (c.as_slice-known.ensures.value ∙ c.in_ok-all.ensures.knowns) c.requires.scope c.requires.within c.requires.counted (sym c.in_ok-refused.ensures ∙ c.in_default.is)).few_values
+
+pub declared_by-requires-clause-few_numbers : goal.declared_by-requires-clause-few_numbers
+declared_by-requires-clause-few_numbers c =
+    (ready_at c.args.scope.now c.args.claims.now c.args.statements.now _ (mentions_of c.args.mentions.now) _ c.in_ok-ways.ensures (c.as_slice-known.ensures.value ∙ c.in_ok-all.ensures.knowns) c.requires.scope c.requires.within c.requires.counted (sym c.in_ok-refused.ensures ∙ c.in_default.is)).few_numbers

@@ -34,4 +34,4 @@ returns c =
     let high : (i : ℕ) → length (f i) ≡ c.object_count.result = λ i. length_values t i t.objects t.values.objects ∙ sym c.object_count.ensures.count in
     let whole : c.loop-kind.values.items ≡ flat_map f (range_with_len 0 count) =
     sym (append-nil c.loop-kind.values.items) ∙ ap (λ k. c.loop-kind.values.items ++ flat_map f (range_with_len p k)) (sym none) ∙ c.loop-kind.invariant in
-    c.new.ensures ∙ ap (λ vs. rows c.object_count.result count vs) whole ∙ rows_made f c.object_count.result 0 count high ∙ ap (λ n. map f (range_with_len 0 n)) c.value_kind_count-count.ensures
+    c.new.ensures ∙ ap (λ vs. rows c.object_count.result count vs) whole ∙ rows_made f c.object_count.result 0 count high ∙ ap (λ n. map f (range_with_len 0 n)) c.value_kind_count-count.ensures.count

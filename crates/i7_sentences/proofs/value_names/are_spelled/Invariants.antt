@@ -1,0 +1,10 @@
+use Rattle.std.proofs.Common.{◌≡◌, length}
+use Rattle.i7_sentences.specs.Names.{words_in}
+use Rattle.i7_sentences.specs.TextPieces.{are_spelled}
+use Rattle.i7_sentences.proofs.value_names.are_spelled.Given as goal
+
+abbrev pub invariant-loop-left : goal.invariant-loop-left
+invariant-loop-left l = are_spelled (words_in l.left) l.right ≡ are_spelled (words_in l.words) l.names
+
+abbrev pub decreases-loop-left : goal.decreases-loop-left
+decreases-loop-left l = length l.left
