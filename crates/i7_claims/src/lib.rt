@@ -26,8 +26,8 @@ mod wording;
 
 pub use built_in::built_in_namings;
 pub use claim::{
-    Claim, Demand, Fact, Grant, Having, Listing, Lying, NamedValue, Naming, Placing, Standing, Start, Usual,
-    Value,
+    Claim, Demand, Fact, Grant, Having, Listing, Lying, NamedValue, Naming, Placing, Standing,
+    Start, Usual, Value,
 };
 pub use claim_laws::{
     books_twice_are_found, lists_twice_are_found, long_lists_are_found, names_too_many_are_found,
@@ -38,8 +38,8 @@ pub use kinds::kind_names;
 pub use listings::values_listed;
 pub use names::{FIRST_OF_AUTHOR, Mention, Names, number_in};
 pub use scans::{earlier, lower};
-pub use sorts::{Sort, built_in_kinds, names_as, property_names, too_many_as, list_too_long};
-pub use standings::{book_twice, name_twice, list_twice};
+pub use sorts::{Sort, built_in_kinds, list_too_long, names_as, property_names, too_many_as};
+pub use standings::{book_twice, list_twice, name_twice};
 pub use statements::{
     Numbered, NumberedDoor, NumberedSentence, NumberedSide, NumberedWay, statements_in,
 };

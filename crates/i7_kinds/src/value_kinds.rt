@@ -104,13 +104,7 @@ fn choice_or(count: usize, value: Option<Value>, other: usize) -> usize
     ensures { result ≡ choice_or count value other }
 {
     match value {
-        Some(Value::Choice(place)) => {
-            if place < count {
-                place
-            } else {
-                other
-            }
-        }
+        Some(Value::Choice(place)) => { if place < count { place } else { other } }
         _ => other,
     }
 }

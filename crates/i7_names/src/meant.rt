@@ -58,7 +58,11 @@ pub fn meaning_as(numbering: &Numbering<'_>, name: &[u8], standing: &Standing) -
         Standing::Object => Some(Meaning::Object(ObjNo::new(numbering.object(name)?))),
         Standing::ValueKind => value_kind_at(numbering, numbering.value_kind(name)),
         Standing::Value(value) => {
-            value_at(numbering, value.place, numbering.value_kind(value.kind.as_slice()))
+            value_at(
+                numbering,
+                value.place,
+                numbering.value_kind(value.kind.as_slice()),
+            )
         }
     }
 }

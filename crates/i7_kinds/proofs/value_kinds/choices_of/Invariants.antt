@@ -9,7 +9,7 @@ invariant-loop-rest l = record {
   same : l.found.items ++ choices_from (made_of l.makings) l.object l.kind l.property l.rest
       ≡ choices_from (made_of l.makings) l.object l.kind (length l.makings.flags.now + length l.makings.numbers.now) l.makings.value_kinds.now;
   few : AreFewValues l.rest;
-  counted : l.property + length l.rest ≡ length l.makings.flags.now + length l.makings.numbers.now + length l.makings.value_kinds.now
+  counted : l.property + length l.rest ≡ length l.makings.flags.now + length l.makings.numbers.now + length l.makings.value_kinds.now;
 }
 
 abbrev pub decreases-loop-rest : goal.decreases-loop-rest
