@@ -14,7 +14,7 @@ use Rattle.play_meaning.specs.declared.way.OpenLoop.{OpenLoop}
 use Rattle.play_meaning.specs.declared.way.Way.{Way}
 use Rattle.play_meaning.specs.declared.way.Way.TheVariants.{Branch, Ends, Leap, Opens, Straight, Turns}
 use Rattle.play_meaning.proofs.Standing.{size_is}
-use Rattle.play_meaning.proofs.Unstuck.{inside}
+use Rattle.play_meaning.proofs.OperandCounts.{inside}
 use Rattle.action_stages.specs.Measures.{Gives, far_at, far_by, far_from, steps_left}
 use Rattle.action_stages.proofs.Coming.{Came, Leads, came}
 use Rattle.action_stages.proofs.Forward.{ExitBehind, HasTurn, HaveTurns, exits_behind, turns_stand}

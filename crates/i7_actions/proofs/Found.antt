@@ -12,7 +12,7 @@ use Rattle.i7_conditions.specs.Scopes.{Scope}
 use Rattle.i7_conditions.specs.Words.{Word}
 use Rattle.i7_conditions.specs.declared.found.Found.{Found}
 use Rattle.i7_conditions.specs.declared.found.Found.TheVariants.{Read, TooMany, Unread}
-use Rattle.i7_conditions.proofs.Counting.{drop_next, left_behind}
+use Rattle.i7_conditions.proofs.FirstParts.{drop_next, left_behind}
 use Rattle.i7_conditions.proofs.Listing.{MadeOfTwo, two_found}
 use Rattle.i7_conditions.proofs.Predicated.{object_found}
 use Rattle.i7_actions.specs.NounForms.{last_said, noun_said, nouns_at, nouns_behind, nouns_by, nouns_from, nouns_of, nouns_said, pair}

@@ -17,7 +17,7 @@ use Rattle.i7_conditions.specs.declared.found.Found.TheVariants.{Read, TooMany, 
 use Rattle.i7_conditions.specs.declared.verb.Verb.{Verb}
 use Rattle.i7_conditions.specs.declared.verb.Verb.TheVariants.{Carries, Encloses, Has, Wears}
 use Rattle.i7_conditions.proofs.Asked.{or_swapped}
-use Rattle.i7_conditions.proofs.Counting.{drop_next, left_behind}
+use Rattle.i7_conditions.proofs.FirstParts.{drop_next, left_behind}
 use Rattle.i7_conditions.proofs.Listing.{Made, MadeOfTwo, one_found, or_found, two_found}
 use Rattle.i7_conditions.proofs.Predicated.{object_found}
 

@@ -3,6 +3,7 @@ pub mod Asked
 mod Chains
 mod Columns
 pub mod Conjoined
+pub mod FirstParts
 pub mod Counting
 pub mod Cutting
 pub mod Described

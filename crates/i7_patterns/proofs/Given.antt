@@ -6,7 +6,7 @@ use Rattle.std.proofs.lemmas.List.{length-drop}
 use Rattle.std.proofs.lemmas.Bool.{ltb-true, ltb-false, cases_Bool}
 use Rattle.i7_conditions.specs.Readings.{FirstOf}
 use Rattle.i7_conditions.specs.Words.{Word}
-use Rattle.i7_conditions.proofs.Counting.{drop_next, left_behind}
+use Rattle.i7_conditions.proofs.FirstParts.{drop_next, left_behind}
 use Rattle.i7_conditions.proofs.Listing.{MadeOfTwo}
 use Rattle.i7_patterns.specs.ActionForms.{with_both}
 use Rattle.i7_patterns.specs.Lowest.{IsLowest, lowest_from}

@@ -26,6 +26,7 @@ pub mod Telling
 pub mod Verdicts
 pub mod WordColumns
 pub mod RisingLines
+pub mod BestFits
 pub mod Valuing
 pub mod ValueKinds
 pub mod ReadingWith

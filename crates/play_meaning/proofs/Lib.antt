@@ -13,9 +13,11 @@ pub mod Reckoning
 pub mod Seen
 pub mod Standing
 pub mod Stated
+pub mod Served
 pub mod States
 pub mod Straight
 pub mod Translated
+pub mod OperandCounts
 pub mod Unstuck
 pub mod Work
 pub mod Placings

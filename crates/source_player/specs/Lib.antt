@@ -1,3 +1,4 @@
 pub mod FaultTexts
+pub mod OneSession
 pub mod SourceRuns
 pub mod Statuses

@@ -8,7 +8,7 @@ use Rattle.story_code.specs.Fronts.{front}
 use Rattle.story_code.specs.Runs.{code_or_none, code_told}
 use Rattle.story_code.specs.Soundness.{IsSoundCode, Judged}
 use Rattle.story_code.specs.Spelling.{Spells, can_spell, spelled, spelling}
-use Rattle.play_meaning.proofs.Unstuck.{inside}
+use Rattle.play_meaning.proofs.OperandCounts.{inside}
 use Rattle.story_code.proofs.Exact.{spelled_size, spelling_size, spells_in}
 use Rattle.story_code.proofs.Places.{at_cases}
 use Rattle.story_code.proofs.SpelledFronts.{front_spelled}

@@ -2,6 +2,7 @@ pub mod Acted
 pub mod Compiled
 pub mod Counted
 pub mod Gathered
+pub mod LeadRooms
 pub mod Held
 pub mod MadeDeclarations
 pub mod MadeObjects

@@ -4,6 +4,7 @@ ghost use Rattle.world_meaning.specs.declared.fault.Fault.{Fault};
 ghost use Rattle.world_meaning.specs.declared.fault.FaultCode.TheVariants.{Memory};
 ghost use Rattle.world_meaning.specs.declared.tale.Tale.{Tale};
 ghost use Rattle.story_format.specs.Contents.{Contents};
+ghost use Rattle.story_format.specs.Holding.{IsHeld};
 ghost use Rattle.story_file.specs.ActionNumbers.{NounsAgree, StandardNamesAgree};
 ghost use Rattle.story_file.specs.Compilations.{IsCompiled, IsRefused, Means};
 
@@ -18,6 +19,11 @@ pub fn one_tale()
     one_text_is_meant();
     one_resolution();
 }
+
+/// A story file holds each tale that a source means: `write` may be called with it.
+pub fn meant_tales_are_held()
+    ensures { (source : List ℕ) (tale : Tale) (said : Contents) → Means source tale said → IsHeld tale }
+{}
 
 /// Rules number the actions as play and table 8 do: each standard one by its name, and each, the author's too, by how many nouns
 /// it asks for.

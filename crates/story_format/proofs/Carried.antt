@@ -62,7 +62,8 @@ use Rattle.story_format.proofs.RulesCarried.{all_standard_carried, carried_so, r
 use Rattle.story_format.proofs.StandardRuleRows.{zip_append}
 use Rattle.story_format.proofs.SoundLemmas.{bytes_enough, bytes_few, bytes_told, origins_counted}
 use Rattle.story_format.proofs.EntryLemmas.{counted_more, counted_same, entry_room, objects_back, objects_in}
-use Rattle.story_format.proofs.TableLemmas.{all_known, entries_counted, entry_strings_known, knows}
+use Rattle.story_format.proofs.TableWords.{all_known, knows}
+use Rattle.story_format.proofs.TableLemmas.{entries_counted, entry_strings_known}
 use Rattle.story_format.proofs.Stories.{described_back, few_objects}
 
 -- ---- names

@@ -16,6 +16,7 @@ pub mod EntryLemmas
 pub mod CountLemmas
 pub mod KindLemmas
 pub mod ValueLemmas
+pub mod TableWords
 pub mod TableLemmas
 pub mod MadeValues
 pub mod Fits
