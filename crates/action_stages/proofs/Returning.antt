@@ -51,10 +51,6 @@ pub changed_behind : (result : Result (Unit {0}) WorldFault) (made : World) (s t
 changed_behind (Ok done) made s t is left = pushed s t (ap (λ (v : StoryWorld). v.past) is)
 changed_behind (Err fault) made s t is left = same_log s t (ap (λ (v : StoryWorld). v.world) left) (ap (λ (v : StoryWorld). v.past) left)
 
--- what comes behind leaves what is at a place that is there
-pub same_back : (since : ℕ) (s t : StoryWorld) → IsThere (back_at since s) → ComesBehind s t → back_at since t ≡ back_at since s
-same_back since s t there behind = ap (λ (front : List World). record { since = since; front = front }) (behind since (there_within s since there)).1
-
 -- a scene that isn't there is not set
 pub no_scene : (w : World) (scene : ℕ) (now : SceneNow) → nat_lt scene (length w.scenes) ≡ false → set_scene scene now w ≡ w
 no_scene w scene now is = ap (λ scenes. record w { scenes = scenes }) (set_past w.scenes scene now (ltb-false scene (length w.scenes) is))

@@ -131,9 +131,6 @@ module _ (k kk : CodedStory) (same : kk ≡ k) (judged : List Judged) (told : Ar
   here : (s : Standing) (p : Progress) → step_at k now inner s p ≡ comes_at s p
   here s p = ap (λ k. step_at k now (inner_of (game_of_codes k) depth) s p) (sym same)
 
-  pub steps_begin : (s : Standing) → s ≡ record { code = n; place = 0; operands = []; loops = []; work = 0 } → start.work ≤ most_work → Runs s start
-  steps_begin s is within = begins k judged told now inner lowers n start s is (begin judged n 0 told.sound body) within
-
   pub steps_on : (s t : Standing) (p q : Progress) → Runs s p → comes_at s p ≡ Goes (at t q) → MayDo judged t → t.code ≡ s.code → Runs t q × (left_at k t q < left_at k s p)
   steps_on s t p q runs is may same = goes_on k judged told now inner lowers n start s t p q runs (here s p ∙ is) may same
 

@@ -1,5 +1,5 @@
 -- Strings that are counted one behind the other.
-use Rattle.std.proofs.Common.{◌≡◌, ◌∙◌, ap, sym, refl, ℕ, suc, ◌+◌, ◌-◌, ◌<◌, ◌≤◌, nat_le, Bool, true, false, max, if◌then◌else◌, List, [], ◌∷◌, ◌++◌, length, take, drop, get_or, Option, Some, None, arith}
+use Rattle.std.proofs.Common.{◌≡◌, ◌∙◌, ap, sym, refl, ℕ, suc, ◌+◌, ◌-◌, ◌≤◌, nat_le, Bool, true, false, max, if◌then◌else◌, List, [], ◌∷◌, ◌++◌, length, take, drop, get_or, Option, Some, None, arith}
 use Rattle.std.specs.Prelude.{map}
 use Rattle.std.proofs.lemmas.List.{take_all}
 use Rattle.story_code.specs.Fronts.{code_in}
@@ -48,7 +48,3 @@ codes_stop next [] j bytes whole some at sound own is so_far = absurd (omega (ar
 codes_stop next (k ∷ rest) j bytes whole some at sound own is so_far =
     let first : counted_on next (strings_in (code_told k)) ≡ None = ap (λ x. counted_on next (strings_in (code_told x))) (sym at) ∙ sym (counted_code next j sound) ∙ ap (λ b. count_code next (code_in b)) (sym own) ∙ sym is in
     sym (strings_stop next (strings_in (code_told k)) (strings_of (map code_told rest)) first) ∙ so_far
-
-pub codes_end : (next : ℕ) (rest : List Judged) (whole : Option ℕ) → length rest < 1 → counted_on next (strings_of (map code_told rest)) ≡ whole → Some next ≡ whole
-codes_end next [] whole none so_far = so_far
-codes_end next (k ∷ rest) whole none so_far = absurd (omega (arith, none))

@@ -1,5 +1,5 @@
 -- The words of a line, taken from its front.
-use Rattle.std.proofs.Common.{◌≡◌, ℕ, ◌<◌, ◌≤◌, Bool, true, false, List, [], ◌∷◌, ◌++◌, length, take, drop, refl, ap, sym, ◌∙◌, arith, get_or, append_assoc}
+use Rattle.std.proofs.Common.{◌≡◌, ℕ, ◌<◌, Bool, true, false, List, [], ◌∷◌, take, drop, refl, ap, ◌∙◌, arith}
 use Rattle.std.specs.Prelude.{filter}
 use Rattle.std.specs.List.{slice_split, position_or_len}
 use Rattle.std.proofs.lemmas.Grind.{common_steps}
@@ -43,15 +43,5 @@ pub words_of-word : (bs : List ℕ) → 0 < position_or_len is_blank bs → word
 words_of-word bs here =
     let h = after_first_part is_blank bs
     in ap (filter is_word) h.first ∙ rw (h.is_long here) (ap (λ words. take (position_or_len is_blank bs) bs ∷ words) h.others)
-
--- a line whose first byte is no blank begins with a word
-pub first_is_word : (bs : List ℕ) → 1 ≤ length bs → is_blank (get_or bs 0 0) ≡ false → 0 < position_or_len is_blank bs
-first_is_word [] h word = absurd (omega (arith, h))
-first_is_word (b ∷ bs) h word = rw word (omega arith)
-
--- one more word is taken from the front
-pub word_taken : (done : List (List ℕ)) (rest word behind line : List ℕ) (n : ℕ) → n ≡ position_or_len is_blank rest → 0 < position_or_len is_blank rest → word ≡ take n rest → behind ≡ drop n rest → done ++ words_of rest ≡ words_of line → (done ++ word ∷ []) ++ words_of behind ≡ words_of line
-word_taken done rest word behind line n place here front back so_far =
-    rw (front, back, place) (append_assoc done (take (position_or_len is_blank rest) rest ∷ []) (words_of (drop (position_or_len is_blank rest) rest)) ∙ ap (λ ws. done ++ ws) (sym (words_of-word rest here)) ∙ so_far)
 
 pub ruleset word_steps = (words_of-blank, words_of-word)

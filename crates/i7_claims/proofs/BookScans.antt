@@ -14,9 +14,6 @@ use Rattle.std.proofs.lemmas.Bool.{cases_Bool}
 use Rattle.i7_claims.proofs.Lowest.{lowest_is}
 use Rattle.i7_claims.proofs.NameScans.{never}
 
-same_or : (a b c : Bool) → a ≡ c → (a || b) ≡ (c || b)
-same_or a b c h = ap (λ x. x || b) h
-
 or_twice : (a b : Bool) → (b ≡ true → a ≡ true) → (a || (b || false)) ≡ a
 or_twice true b h = refl
 or_twice false true h = sym (h refl)

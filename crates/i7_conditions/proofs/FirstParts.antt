@@ -18,14 +18,6 @@ use Rattle.i7_conditions.proofs.Cutting.{looked_at_end, looked_before}
 
 -- ---- words that are one number alone
 
-by_term : (s : Scope) (words : List Word) (found : Found Number) → IsTermFound s words found → is_read found ≡ true → (t : Number) × IsTermMeant s words t
-by_term s words (Read t) h is = (t, h.0)
-by_term s words TooMany h is = (h.0, h.1)
-by_term s words Unread h is = absurd cc
-
-term_there : (s : Scope) (words : List Word) → is_term s words ≡ true → (t : Number) × IsTermMeant s words t
-term_there s words is = by_term s words (term_said s words) (term_found s words) is
-
 by_meant : (s : Scope) (words : List Word) (t : Number) (found : Found Number) → IsTermFound s words found → IsTermMeant s words t → is_read found ≡ true
 by_meant s words t (Read u) h meant = refl
 by_meant s words t TooMany h meant = refl

@@ -1,17 +1,12 @@
 -- A map in which what comes first to a name stays.
-use Rattle.std.proofs.Common.{◌≡◌, ℕ, ◌+◌, ◌-◌, ◌≤◌, Bool, true, false, cond, not, ◌||◌, List, [], ◌∷◌, ◌++◌, refl, ap, ◌∙◌, inl, inr, length, take, drop, get_or, arith}
+use Rattle.std.proofs.Common.{◌≡◌, ℕ, ◌+◌, Bool, true, false, cond, not, List, [], ◌∷◌, ◌++◌, refl, ap, ◌∙◌, inl, inr}
 use Rattle.std.specs.Prelude.{Option, Some, None, bytes_eq, is_some, option_copied}
 use Rattle.std.specs.Borrow.{Bor}
 use Rattle.std.specs.Global.{Vec}
 use Rattle.std.specs.Map.{lookup}
 use Rattle.std.specs.Option.{option_or}
-use Rattle.std.proofs.lemmas.List.{take_all}
 use Rattle.std.proofs.lemmas.Bool.{cases_Bool}
-use Rattle.std.proofs.Math.Bool.{or_assoc}
-use Rattle.world_meaning.specs.declared.tale.Object.{Object}
-use Rattle.i7_conditions.specs.NamesOf.{any_named_by_operator}
-use Rattle.i7_conditions.specs.Operators.{holds_operator}
-use Rattle.i7_conditions.specs.Meanings.{Meanings, given, with_object, with_objects}
+use Rattle.i7_conditions.specs.Meanings.{given}
 
 pub copied_none : {X : Type 0} (found : Option (Bor X)) (none : Bool) → is_some found ≡ not none → none ≡ true → option_copied found ≡ None
 copied_none None none e is = refl
@@ -31,21 +26,3 @@ looked_behind test (e ∷ es) k x =
 pub told_behind : {X : Type 0} (old new : List (Vec ℕ × X)) (key : Vec ℕ) (x : X) → new ≡ old ++ (key, x) ∷ [] → (name : List ℕ)
     → lookup (λ k. bytes_eq name k.items) new ≡ option_or (lookup (λ k. bytes_eq name k.items) old) (given key.items x name)
 told_behind old new key x e name = ap (lookup (λ k. bytes_eq name k.items)) e ∙ looked_behind (λ (k : Vec ℕ). bytes_eq name k.items) old key x
-
--- ---- the objects of a tale, one after the other
-
-pub objects_step : (old new : Meanings) (number : ℕ) (rest : List Object) (object : Object) (all : Meanings) → 1 ≤ length rest → object ≡ get_or rest 0 object → new ≡ with_object old number object
-    → with_objects old number rest ≡ all → with_objects new (number + 1) (take (length rest - 1) (drop 1 rest)) ≡ all
-objects_step old new number [] object all l e n h = absurd (omega arith)
-objects_step old new number (first ∷ rest) object all l e n h =
-    let whole : take (length (first ∷ rest) - 1) rest ≡ rest = take_all _ rest (omega arith) in
-    rw (whole, n, e) h
-
--- ---- operators among their names
-
-pub operators_step : (was now : Bool) (rest : List Object) (object : Object) (all : Bool) → 1 ≤ length rest → object ≡ get_or rest 0 object → now ≡ (was || holds_operator object.name)
-    → (was || any_named_by_operator rest) ≡ all → (now || any_named_by_operator (take (length rest - 1) (drop 1 rest))) ≡ all
-operators_step was now [] object all l e n h = absurd (omega arith)
-operators_step was now (first ∷ rest) object all l e n h =
-    let whole : take (length (first ∷ rest) - 1) rest ≡ rest = take_all _ rest (omega arith) in
-    rw (whole, n, e) (or_assoc was (holds_operator first.name) (any_named_by_operator rest) ∙ h)

@@ -62,10 +62,6 @@ behind_placed depth step all front level inner x found is deepest is_found is_x 
 pub deep_placed : (depth : ℕ) (step : Step) (all : List Kept) (inner : Kept) → depth + 1 < length all → None ≡ placed depth step (levels_of all ++ level_of inner ∷ [])
 deep_placed depth step all inner h = sym (too_deep depth step (levels_of all) (level_of inner) (omega (arith, h, levels_len all)))
 
--- what raised levels are, the deepest apart
-pub last_placed : (depth : ℕ) (step : Step) (all front : List Kept) (inner : Kept) (x : Option (List Level)) → all ≡ front ++ inner ∷ [] → x ≡ placed depth step (levels_of front ++ level_of inner ∷ []) → x ≡ placed depth step (levels_of all)
-last_placed depth step all front inner x is is_x = is_x ∙ ap (placed depth step) (sym (ap levels_of is ∙ levels_last front inner))
-
 -- ---- lines one less
 
 pub line_kept : (levels more : List Level) (rest before : List Line) (line : Line) (all : Option (List Level)) → rest ≡ before ++ line ∷ [] → levels_on levels rest ≡ all → Some more ≡ placed line.depth line.step levels → levels_on more before ≡ all

@@ -14,9 +14,6 @@ split_whole p (x ∷ xs) le =
       | inr isnt ↦ let s : length (x ∷ xs) ≤ 1 + position_or_len p xs = rw isnt at le in rw (slice_split-cons_no p x xs isnt, split_whole p xs (omega arith)) refl
     ]
 
-pub no_run_first : {A : Type 0} (p : A → Bool) (xs : List A) (n : ℕ) → n ≡ position_or_len p xs → length xs ≤ n → slice_split p xs ≡ xs ∷ []
-no_run_first p xs n e le = split_whole p xs (omega arith)
-
 pub run_first : {A : Type 0} (p : A → Bool) (xs : List A) (n : ℕ) → n ≡ position_or_len p xs → n < length xs → slice_split p xs ≡ take n xs ∷ slice_split p (drop 1 (drop n xs))
 run_first p [] n e lt = absurd (omega arith)
 run_first p (x ∷ xs) n e lt =

@@ -1,10 +1,8 @@
 -- What names stand for, each in small letters, and the kinds of plurals.
-use Rattle.std.specs.Prelude.{ℕ, ◌+◌, List, [], ◌∷◌, Option, Some, None, bytes_eq, if◌then◌else◌}
+use Rattle.std.specs.Prelude.{ℕ, List, Option, Some, None, bytes_eq, if◌then◌else◌}
 use Rattle.std.specs.Option.{option_or}
 use Rattle.indexmap.specs.IndexMap.{IndexMap, get_by}
 use Rattle.std.specs.Global.{Vec}
-use Rattle.world_meaning.specs.Spelling.{lowered}
-use Rattle.world_meaning.specs.declared.tale.Object.{Object}
 use Rattle.i7_conditions.specs.declared.meaning.Meaning.{Meaning}
 use Rattle.i7_conditions.specs.declared.meaning.Meaning.TheVariants as meaning
 
@@ -30,14 +28,6 @@ with_meaning meanings key meaning name = option_or (meanings name) (given key me
 
 abbrev pub with_kind : Plurals → List ℕ → ℕ → Plurals
 with_kind plurals key kind name = option_or (plurals name) (given key kind name)
-
-abbrev pub with_object : Meanings → ℕ → Object → Meanings
-with_object meanings number object = with_meaning meanings (lowered object.name) (meaning.Object number)
-
--- the names of objects, the first having this number
-abbrev pub with_objects : Meanings → ℕ → List Object → Meanings
-with_objects meanings number [] = meanings
-with_objects meanings number (object ∷ objects) = with_objects (with_object meanings number object) (number + 1) objects
 
 -- what a map tells of a name
 abbrev pub told_at : {X S : Type 0} → IndexMap (Vec ℕ) X S → List ℕ → Option X

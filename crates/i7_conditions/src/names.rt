@@ -1,12 +1,12 @@
 //! The names of a tale and what each stands for: `Object(13)` for `ball`, `Kind(0)` for `thing`.
-ghost use Rattle.std.specs.Prelude.{◌≡◌, ◌≤◌, ◌+◌, ◌||◌, false, length, OnOk};
-ghost use Rattle.i7_conditions.specs.Meanings.{meaning_at, no_kinds, no_meanings, plural_at, with_kind, with_meaning, with_object, with_objects};
+ghost use Rattle.std.specs.Prelude.{◌≡◌, ◌||◌, false, OnOk};
+ghost use Rattle.i7_conditions.specs.Meanings.{meaning_at, no_kinds, no_meanings, plural_at, with_kind, with_meaning};
 
 use crate::meaning::Meaning;
 use crate::operator::holds_operator;
 use indexmap::IndexMap;
 use std::alloc::{AllocError, Global};
-use world_meaning::{KindNo, ObjNo, Object, lowered};
+use world_meaning::{KindNo, lowered};
 
 /// What names stand for, and the plurals of kinds, which are no names. All are kept in small letters.
 #[derive(Drop)]
@@ -47,7 +47,7 @@ fn keep_plural(
 
 impl Names {
     ghost use Rattle.world_meaning.specs.Spelling.{lowered};
-    ghost use Rattle.i7_conditions.specs.NamesOf.{any_named_by_operator, has_operators, meanings_of, plurals_of};
+    ghost use Rattle.i7_conditions.specs.NamesOf.{has_operators, meanings_of, plurals_of};
     ghost use Rattle.i7_conditions.specs.Operators.{holds_operator};
 
     /// No names.
@@ -88,33 +88,6 @@ impl Names {
         self.with_operator = self.with_operator || holds_operator(plural);
         let plural = lowered(alloc, plural)?;
         keep_plural(&mut self.plurals, plural, kind)
-    }
-
-    /// Adds the name of an object.
-    fn add_object(&mut self, alloc: Global, number: u16, object: &Object) -> Result<(), AllocError>
-        ensures names { OnOk result (meanings_of self.new ≡ with_object (meanings_of self.old) number object.now) }
-        ensures plurals { OnOk result (plurals_of self.new ≡ plurals_of self.old) }
-        ensures operators { OnOk result (has_operators self.new ≡ (has_operators self.old || holds_operator object.now.name)) }
-    {
-        let meaning = Meaning::Object(ObjNo::new(number));
-        self.add(alloc, object.name.as_slice(), meaning)
-    }
-
-    /// Adds the names of a tale's objects, by number.
-    pub fn add_objects(&mut self, alloc: Global, objects: &[Object]) -> Result<(), AllocError>
-        requires few { length objects.now ≤ 65535 }
-        ensures names { OnOk result (meanings_of self.new ≡ with_objects (meanings_of self.old) 0 objects.now) }
-        ensures plurals { OnOk result (plurals_of self.new ≡ plurals_of self.old) }
-        ensures operators { OnOk result (has_operators self.new ≡ (has_operators self.old || any_named_by_operator objects.now)) }
-    {
-        let mut number = 0u16;
-        let mut rest = objects;
-        while let [object, after @ ..] = rest {
-            self.add_object(alloc, number, object)?;
-            number += 1;
-            rest = after;
-        }
-        Ok(())
     }
 
     /// What a name in small letters stands for.

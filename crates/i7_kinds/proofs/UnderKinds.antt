@@ -50,11 +50,3 @@ room_and_thing others = (refl, refl)
 pub direction_and_thing : (others : List (Option ℕ)) → Apart (with_others others) direction_kind thing_kind
 unfolding is_under built_in_parents
 direction_and_thing others = (refl, refl)
-
-pub direction_and_room : (others : List (Option ℕ)) → Apart (with_others others) direction_kind room_kind
-unfolding is_under built_in_parents
-direction_and_room others = (refl, refl)
-
-pub person_and_room : (others : List (Option ℕ)) → Apart (with_others others) person_kind room_kind
-unfolding is_under built_in_parents
-person_and_room others = (refl, refl)

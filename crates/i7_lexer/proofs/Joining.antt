@@ -1,12 +1,11 @@
 -- Lexemes that are one word, and such that aren't.
 use Rattle.std.proofs.Common.{◌≡◌, ℕ, ◌-◌, ◌<◌, append_assoc, arith, zero, suc, false, ◌||◌, Bool, true, List, [], ◌∷◌, ◌++◌, take, drop, codes, refl, sym, ap, ◌∙◌}
 use Rattle.std.specs.List.{flat_map}
-use Rattle.std.proofs.lemmas.List.{append-nil}
-use Rattle.i7_lexer.specs.declared.lexeme.Piece.TheVariants.{Word, Text, Mark}
+use Rattle.i7_lexer.specs.declared.lexeme.Piece.TheVariants.{Text, Mark}
 use Rattle.i7_lexer.specs.declared.placed.Placed.{Placed}
 use Rattle.i7_lexer.specs.declared.token.Start.{Start}
 use Rattle.i7_lexer.specs.declared.token.Token.{Token}
-use Rattle.i7_lexer.specs.declared.token.TokenKind.TheVariants.{Word as WordToken, Text as TextToken, Mark as MarkToken}
+use Rattle.i7_lexer.specs.declared.token.TokenKind.TheVariants.{Text as TextToken, Mark as MarkToken}
 use Rattle.i7_lexer.specs.Texts.{folded}
 use Rattle.i7_lexer.specs.Tokens.{is_switched, is_fixed_in_place, joined_len, says, spaced, start_of, token_of, tokens_behind, tokens_of, with_other}
 
@@ -33,14 +32,6 @@ behind-drop (suc n) (first ∷ rest) = behind-drop n rest
 joined-is : (first : Placed) (rest behind : List Placed) (token : Token) (n : ℕ) → n ≡ joined_len first rest → token ≡ token_of first (take n rest) → behind ≡ drop n rest → token ∷ tokens_of behind ≡ tokens_of (first ∷ rest)
 joined-is first rest behind token n is_n is_token is_behind =
     rw (is_token, is_behind, ← behind-drop n rest, is_n) refl
-
-pub join-some : (first : Placed) (word bytes : List ℕ) (start : Start) (rest behind : List Placed) (token : Token) (n : ℕ) → first.piece ≡ Word word → n ≡ joined_len first rest → bytes ≡ word ++ flat_map (λ other. spaced other.piece) (take n rest) → start ≡ start_of first.at.start (take n rest) → token ≡ record { kind = WordToken bytes; line = first.at.line; start = start } → behind ≡ drop n rest → token ∷ tokens_of behind ≡ tokens_of (first ∷ rest)
-join-some first word bytes start rest behind token n is_word is_n is_bytes is_start is_token is_behind =
-    joined-is first rest behind token n is_n (is_token ∙ rw (is_bytes, is_start, is_word) refl) is_behind
-
-pub join-none : (first : Placed) (word : List ℕ) (rest behind : List Placed) (token : Token) → first.piece ≡ Word word → joined_len first rest ≡ 0 → token ≡ record { kind = WordToken word; line = first.at.line; start = first.at.start } → behind ≡ rest → token ∷ tokens_of behind ≡ tokens_of (first ∷ rest)
-join-none first word rest behind token is_word none is_token is_behind =
-    joined-is first rest behind token 0 (sym none) (is_token ∙ rw is_word (ap (λ t. record { kind = WordToken t; line = first.at.line; start = first.at.start }) (sym (append-nil word)))) is_behind
 
 pub join-text : (first : Placed) (inner : List ℕ) (rest behind : List Placed) (token : Token) → first.piece ≡ Text inner → token ≡ record { kind = TextToken (folded inner); line = first.at.line; start = first.at.start } → behind ≡ rest → token ∷ tokens_of behind ≡ tokens_of (first ∷ rest)
 join-text first inner rest behind token is_text is_token is_behind =

@@ -38,10 +38,6 @@ lexemes-next (b ∷ bytes) l behind found =
     let within = next-within (b ∷ bytes) l behind found in
     ap (lexemes_with (lexemes_within (length bytes))) found ∙ ap (λ t. l ∷ t) (enough (length bytes) (length behind) behind (omega (arith, within.2)) (omega arith))
 
-lexemes-none : (bytes : List ℕ) → next_of bytes ≡ None → lexemes_within (length bytes) bytes ≡ []
-lexemes-none [] found = refl
-lexemes-none (b ∷ bytes) found = ap (lexemes_with (lexemes_within (length bytes))) found
-
 -- where the lexeme is kept, it is the first
 pub placed-kept : (at : Cursor) (bytes : List ℕ) (l : Lexeme) (piece : Piece) (behind : List ℕ) → next_of bytes ≡ Some (l, behind) → l ≡ Kept piece → placed_in at bytes ≡ record { piece = piece; at = at } ∷ placed_in (after at l) behind
 placed-kept at bytes l piece behind found is_kept =
@@ -52,9 +48,6 @@ pub placed-passed : (at : Cursor) (bytes : List ℕ) (l : Lexeme) (behind : List
 placed-passed at bytes (Kept piece) behind found never = absurd (never piece refl)
 placed-passed at bytes (Space space) behind found never = ap (placed_from at) (lexemes-next bytes (Space space) behind found)
 placed-passed at bytes (Comment inner) behind found never = ap (placed_from at) (lexemes-next bytes (Comment inner) behind found)
-
-pub placed-none : (at : Cursor) (bytes : List ℕ) → next_of bytes ≡ None → placed_in at bytes ≡ []
-placed-none at bytes found = ap (placed_from at) (lexemes-none bytes found)
 
 -- the lexemes that a text is cut into are those that are read
 cut-lexemes : (ls : List Lexeme) (bytes : List ℕ) → IsCut ls bytes [] → lexemes_within (length bytes) bytes ≡ ls

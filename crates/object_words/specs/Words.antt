@@ -4,9 +4,7 @@ use Rattle.std.specs.List.{slice_split}
 use Rattle.world_meaning.specs.declared.direction.Direction.{Direction}
 use Rattle.world_meaning.specs.Directions.{all_directions, short_word}
 use Rattle.world_meaning.specs.Spelling.{lowered}
-use Rattle.world_meaning.specs.Tale.{object_at}
 use Rattle.world_meaning.specs.declared.tale.Object.{Object}
-use Rattle.world_meaning.specs.declared.tale.Tale.{Tale}
 use Rattle.object_words.specs.Mentions.{first_mentions}
 
 abbrev pub is_blank : ℕ → Bool
@@ -38,7 +36,3 @@ words_for o name = first_mentions (blank_words (lowered name) ++ more_words o)
 abbrev pub words_in : ℕ → Option Object → List (List ℕ)
 words_in o None = []
 words_in o (Some object) = words_for o object.name
-
--- the words of a tale's object, by its number
-abbrev pub words_of : Tale → ℕ → List (List ℕ)
-words_of tale o = words_in o (object_at tale o)

@@ -161,20 +161,11 @@ go_leaves f apart k d p = by_door (is_closed k.setting p.world door)
 ended_apart : IsApart (λ w. w.ended)
 ended_apart = record { flags = λ w flags. refl; places = λ w places. refl }
 
-turns_apart : IsApart (λ w. w.turns)
-turns_apart = record { flags = λ w flags. refl; places = λ w places. refl }
-
 pub look_ended : (k : PlainStory) (p : Progress) → Leaves (λ w. w.ended) p (look k p)
 look_ended = look_leaves (λ w. w.ended) ended_apart
 
 pub go_ended : (k : PlainStory) (d : ℕ) (p : Progress) → Leaves (λ w. w.ended) p (go k d p)
 go_ended = go_leaves (λ w. w.ended) ended_apart
-
-pub look_turns : (k : PlainStory) (p : Progress) → Leaves (λ w. w.turns) p (look k p)
-look_turns = look_leaves (λ w. w.turns) turns_apart
-
-pub go_turns : (k : PlainStory) (d : ℕ) (p : Progress) → Leaves (λ w. w.turns) p (go k d p)
-go_turns = go_leaves (λ w. w.turns) turns_apart
 
 pub look_turn : (k : PlainStory) (w : World) → w.ended ≡ None → turn (game_of_plain k) look_round (fresh w) ≡ next (look k (fresh w)) count_turn
 look_turn k w going = turn_counted k look_round (fresh w) (look k (fresh w)) going (look_performed k w) (λ q is. look_ended k (fresh w) q is ∙ going)

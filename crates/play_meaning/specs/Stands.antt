@@ -53,10 +53,6 @@ pub record StandsBy {z : Counts} {role : Use} {code : List Instruction} (sound :
   pub loops : length s.loops ≡ loops_around role + length (sound.at s.place).loops
   pub unlooped : is_body role ≡ false → (sound.at s.place).loops ≡ []
 
--- a state that a run of a code for this use may come to
-abbrev pub Stands : Counts → Use → List Instruction → State → Type 0
-Stands z role code s = (sound : IsSound z role code) × StandsBy sound s
-
 -- what an instruction finds there: its use allows it, what it names is there, and so are its operands and the room for
 -- what it gives
 pub record Finds (z : Counts) (role : Use) (i : Instruction) (s : State) : Type 0 where

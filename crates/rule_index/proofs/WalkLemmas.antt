@@ -1,7 +1,6 @@
 -- Walks over a list of rules, one by one or by the places of a class.
 use Rattle.std.proofs.Common.{◌≡◌, ◌∙◌, ap, sym, refl, subst, ℕ, zero, suc, ◌+◌, ◌-◌, ◌<◌, ◌≤◌, Bool, true, false, List, [], ◌∷◌, length, drop, drop-drop, filter, Option, Some, None, arith, ltb, ltb-true, ltb-false}
-use Rattle.std.specs.Prelude.{◌&&◌, slice_get, slice_index_or, if◌then◌else◌}
-use Rattle.std.proofs.lemmas.Option.{slice_get_past, slice_get_within}
+use Rattle.std.specs.Prelude.{slice_get, slice_index_or, if◌then◌else◌}
 use Rattle.std.specs.Iterator.{MakesProgress, item_count}
 use Rattle.std.specs.List.Sorted.{IsNonDecreasingBy, IsPartitionPoint}
 use Rattle.play_meaning.specs.Admitting.{admits}
@@ -50,12 +49,6 @@ module _ (p : ℕ → Bool) (rules : List ℕ) (from place : ℕ) (none : NonePa
   first_found rule low is =
       let parts = passing_some p (slice_get rules place) rule is in
       record { behind = low; there = parts.0; passing = parts.1; others = none }
-
-  pub none_is_left : length rules ≤ place → NoneIsLeft p rules from
-  none_is_left end n rule low there = none n rule low (let within = slice_get_within rules n rule there in omega arith) there
-
-pub none_yet : (p : ℕ → Bool) (rules : List ℕ) (from : ℕ) → NonePasses p rules from from
-none_yet p rules from n rule low high there = absurd (omega arith)
 
 -- ---- by the places of a class
 
@@ -124,9 +117,6 @@ pub record IsLeft (suits passes : ℕ → Bool) (rules : List ℕ) (from : ℕ) 
   pub none : NonePasses passes rules from at
 
 module _ (suits passes : ℕ → Bool) (apart : (rule : ℕ) → suits rule ≡ false → passes rule ≡ false) (rules : List ℕ) (from : ℕ) where
-  pub left_first : (rest : List ℕ) → rest ≡ places_where suits from (drop from rules) → IsLeft suits passes rules from rest
-  left_first rest is = record { at = from; left = is; behind = omega arith; none = none_yet passes rules from }
-
   module _ (rest : List ℕ) (left : IsLeft suits passes rules from rest) where
     pub left_none : rest ≡ [] → NoneIsLeft passes rules from
     left_none is n rule low there = by (ltb n left.at) refl

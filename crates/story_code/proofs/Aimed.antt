@@ -31,13 +31,6 @@ said_seam a x b tests to low h =
 
 -- ---- what was emitted in front of more that bytes can say is kept
 
-front_kept : (first : ℕ) (e : Emitted) (p q : Part) → can_say_all (followed first e (seq p q)) ≡ true → emitted (record { first = first; kept = Some e }) p ≡ record { first = first; kept = Some (followed first e p) }
-unfolding emitted
-front_kept first e p q h =
-    let front = followed first e p in
-    let said = can_say_front front (q (first + length front.tests) (sizes front.code)) (ap can_say_all (followed_seq first e p q) ∙ h) in
-    ap (λ x. record { first = first; kept = kept_if x front }) said
-
 last_kept : (first : ℕ) (e : Emitted) (p : Part) → can_say_all (followed first e p) ≡ true → emitted (record { first = first; kept = Some e }) p ≡ record { first = first; kept = Some (followed first e p) }
 unfolding emitted
 last_kept first e p h = ap (λ x. record { first = first; kept = kept_if x (followed first e p) }) h

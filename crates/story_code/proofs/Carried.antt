@@ -1,14 +1,12 @@
 -- What an instruction of a test or a description does, it does in a body.
-use Rattle.std.proofs.Common.{◌≡◌, ap, ℕ, suc, ◌≤◌, ◌+◌, List, [], ◌∷◌, length, refl, Ok, Err, arith}
-use Rattle.std.specs.Prelude.{Result, map}
+use Rattle.std.proofs.Common.{◌≡◌, ap, ℕ, suc, ◌≤◌, ◌+◌, List, [], ◌∷◌, length, refl, arith}
+use Rattle.std.specs.Prelude.{map}
 use Rattle.play_meaning.specs.Grounds.{Fixed, said_by_code}
 use Rattle.play_meaning.specs.Worlds.{World}
 use Rattle.play_meaning.specs.declared.action.ActionNow.{ActionNow}
 use Rattle.play_meaning.specs.declared.instruction.Instruction.{Instruction}
-use Rattle.world_meaning.specs.declared.session.Abandon.{Abandon}
-use Rattle.story_code.specs.Runs.{Describes, Proceeds, Standing, code_told, codes_of}
+use Rattle.story_code.specs.Runs.{Describes, Standing, code_told, codes_of}
 use Rattle.story_code.specs.Soundness.{Judged}
-use Rattle.story_code.specs.Steps.{CarriesOn}
 
 pub many : (judged : List Judged) → length (map code_told judged) ≡ length judged
 many [] = refl
@@ -21,7 +19,3 @@ by_code fixed judged = λ o now w. said_by_code (codes_of fixed judged) fixed.se
 module _ (fixed : Fixed) (judged : List Judged) (now : ActionNow) (w : World) (i : Instruction) (s t : Standing) (text said : List ℕ) where
   deep : (n : ℕ) → length judged ≤ n + suc (length (map code_told judged))
   deep n = omega (arith, many judged)
-
-  pub in_body : {A : Type 0} (result : Result A Abandon) → Proceeds fixed judged now w i s text result t said → CarriesOn fixed judged now w i s text result w t said
-  in_body (Ok done) proceeds = λ inner. proceeds (length (map code_told judged)) (by_code fixed judged) inner (deep s.code)
-  in_body (Err reason) broke = λ granted inner. broke granted (length (map code_told judged)) (by_code fixed judged) inner (deep s.code)

@@ -168,10 +168,6 @@ fill_stop z p l l' bytes after i t n b whole h e1 e2 o eo e4' e5 e6 =
     sym (fills_broken z (p + size_of i) (code_in (drop (size_of i) bytes)) (slice_set t p (bare_scope l)))
     ∙ ap (λ x. fills z (p + size_of i) x (code_in (drop (size_of i) bytes)) (slice_set t p (bare_scope l))) e9 ∙ sym s ∙ e6
 
-pub no_front : (o : Option Instruction) (bytes : List ℕ) → o ≡ front bytes → ((i : Instruction) → o ≡ Some i → ⊥) → front bytes ≡ None
-no_front None bytes e never = sym e
-no_front (Some i) bytes e never = absurd (never i refl)
-
 pub meet_next : (z : Sizes) (p : ℕ) (l l' : Label) (bytes after : List ℕ) (i : Instruction) (t : List ℕ) (n : ℕ) (b g : Bool) (whole : Bool) → front bytes ≡ Some i → n ≡ size_of i → after ≡ drop n bytes → g ≡ goal_met t p i l.loops → g ≡ true
     → (o : Option Instruction) → o ≡ front after → if_so b l' ≡ behind z p i (next_list o) l → b ≡ true → meets z p (Some l) (code_in bytes) t ≡ whole → meets z (p + n) (Some l') (code_in after) t ≡ whole
 meet_next z p l l' bytes after i t n b g whole h e1 e2 e3 e3' o eo e4' e5 e6 =

@@ -15,7 +15,7 @@ use Rattle.i7_conditions.specs.declared.found.Found.TheVariants.{Read}
 use Rattle.i7_phrases.specs.Texts.{found_text, text_is_over}
 use Rattle.i7_resolution.specs.SourceTexts.{SaysIn}
 use Rattle.story_file.specs.Meanings.{AreTexts, descriptions_of}
-use Rattle.story_file.specs.Texts.{AddsText, AreReadable, IsReadable, texts_kept}
+use Rattle.story_file.specs.Texts.{AddsText, AreReadable, texts_kept}
 
 module _ (s : Scope) (objects : List Object) where
   -- these objects are left, where so many texts are known
@@ -25,11 +25,6 @@ module _ (s : Scope) (objects : List Object) where
 
   pub begins : (texts : List Kept) → AreReadable s objects → texts ≡ [] → IsOnWay texts objects
   begins texts readable none = subst (λ l. IsOnWay l objects) (sym none) (record { readable = readable; told = λ more are. are })
-
-  -- the description of the object in front
-  pub readable_first : (texts : List Kept) (rest : List Object) (object : Object) → 1 ≤ length rest → object ≡ get_or rest 0 object → IsOnWay texts rest → IsReadable s object.description
-  readable_first texts [] object some at way = absurd (omega (arith, some))
-  readable_first texts (one ∷ rest) object some at way = subst (λ (o : Object). IsReadable s o.description) (sym at) way.readable.0
 
   grown : (texts more : List Kept) (rest : List Object) (object : Object) (description : Option (List ℕ)) → object.description ≡ description → AddsText s description texts more → IsOnWay texts (object ∷ rest) → IsOnWay more rest
   grown texts more rest object None is same way = record {

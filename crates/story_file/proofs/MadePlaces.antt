@@ -154,8 +154,3 @@ module _ (others : List (Option ℕ)) (n : ℕ) (knowns : List Known) (count : �
 
     pub tree_with_player : 1 ≤ length places → IsTree (place_at places) → IsTree (place_at (put places 0 (place_in_room room)))
     tree_with_player many tree = player_tree places (place_in_room room) many (omega (arith, bounds.0)) room_nowhere tree
-
-    -- the player is somewhere, and so in a room
-    in_some_room : (place : Option Place) → IsSuited (kinds_known S knowns) 0 place → (place ≡ None → ⊥) → (p : Place) × (place ≡ Some p) × (suits (kinds_known S knowns) 0 p ≡ true)
-    in_some_room None h k = absurd (k refl)
-    in_some_room (Some p) h k = (p, refl, h)

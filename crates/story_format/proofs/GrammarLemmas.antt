@@ -1,12 +1,12 @@
 -- The lines of a tale's grammar: their entries are right, have room in their bytes, and say what the lines say.
 use Rattle.std.proofs.Common.{◌≡◌, ℕ, zero, suc, ◌+◌, ◌<◌, ◌≤◌, Bool, true, false, not, ltb, leb, eqb, List, [], ◌∷◌, ◌++◌, length, map, Option, Some, None, refl, sym, ap, ◌∙◌, arith, inl, inr}
-use Rattle.std.specs.Prelude.{count_by, filter, slice_get, slice_index_or, unwrap_or}
+use Rattle.std.specs.Prelude.{count_by, filter, slice_get, slice_index_or}
 use Rattle.std.specs.List.{flat_map, list_all}
 use Rattle.std.specs.Option.{option_map}
 use Rattle.std.proofs.lemmas.Bool.{and_from, and_parts, cases_Bool, eq-eqb, eqb-true, le-leb, leb-true, lt-ltb, ne_eqb}
 use Rattle.std.proofs.lemmas.List.{length-append, map-append}
 use Rattle.std.proofs.lemmas.List.Folds.{list_all-append}
-use Rattle.std.proofs.lemmas.Option.{get_or_from_slice_get, slice_get-map, unwrap_or-slice_get}
+use Rattle.std.proofs.lemmas.Option.{get_or_from_slice_get, slice_get-map}
 use Rattle.world_meaning.specs.declared.needs.Needs.{Needs}
 use Rattle.command_grammar.specs.Lines.{no_line}
 use Rattle.object_words.specs.Mentions.{number_in, number_or_none}
@@ -265,10 +265,6 @@ unfolding standard_lines
 standard_short = refl
 
 -- ---- a line by its number
-
-pub no_line_there : (strings : List (List ℕ)) (entries : List LineEntry) (n : ℕ) → slice_get entries n ≡ None → slice_index_or (map (line_in strings) entries) n no_line ≡ no_line
-no_line_there strings entries n none =
-    sym (unwrap_or-slice_get (map (line_in strings) entries) n no_line) ∙ ap (λ (found : Option Line). unwrap_or found no_line) (slice_get-map (line_in strings) entries n ∙ ap (option_map (line_in strings)) none)
 
 pub line_there : (strings : List (List ℕ)) (entries : List LineEntry) (n : ℕ) (entry : LineEntry) → slice_get entries n ≡ Some entry → slice_index_or (map (line_in strings) entries) n no_line ≡ line_in strings entry
 line_there strings entries n entry there =

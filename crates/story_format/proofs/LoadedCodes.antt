@@ -1,8 +1,8 @@
 -- The codes of a story that was loaded: they are sound together, and describe its objects.
-use Rattle.std.proofs.Common.{◌≡◌, ◌∙◌, ap, sym, ℕ, zero, suc, ◌<◌, Bool, true, false, ◌&&◌, eqb, leb, ltb, List, length, map, inl, inr, refl, arith}
-use Rattle.std.specs.Prelude.{None, Option, Some, ◌||◌, replicate, slice_get}
+use Rattle.std.proofs.Common.{◌≡◌, ◌∙◌, ap, sym, ℕ, zero, suc, ◌<◌, Bool, true, false, ◌&&◌, eqb, leb, ltb, List, length, map, refl, arith}
+use Rattle.std.specs.Prelude.{Some, ◌||◌, replicate, slice_get}
 use Rattle.std.specs.List.{list_all}
-use Rattle.std.proofs.lemmas.Bool.{ltb-true, cases_Bool, and_parts}
+use Rattle.std.proofs.lemmas.Bool.{ltb-true, and_parts}
 use Rattle.std.proofs.lemmas.Simd.{map-map}
 use Rattle.world_meaning.proofs.Options.{get_front}
 use Rattle.play_meaning.specs.Codes.{Codes}
@@ -12,7 +12,7 @@ use Rattle.story_code.specs.Runs.{AreSoundTogether, IsDescription, code_told}
 use Rattle.story_code.specs.Soundness.{Judged}
 use Rattle.story_format.specs.Checks.{are_in_place, are_named_in_order, are_right, are_right_objects, codes_named, heads_named, has_small_words, have_words, is_small, strings_in_tables}
 use Rattle.story_format.specs.Codes.{AreCodesOf, code_spelled, codes_told, counts_of, uses_of}
-use Rattle.story_format.specs.Facts.{description_code_in, description_code_of}
+use Rattle.story_format.specs.Facts.{description_code_of}
 use Rattle.story_format.specs.Loaded.{IsLoaded}
 use Rattle.story_format.specs.RuleChecks.{codes_in_tables, uses_in_tables}
 use Rattle.story_format.specs.Sizes.{are_different, is_right_entry, sizes_of}
@@ -24,7 +24,7 @@ use Rattle.story_format.specs.declared.tables.Tables.{Tables}
 use Rattle.story_format.proofs.Naming.{named_within}
 use Rattle.story_format.proofs.RoomLemmas.{right_parts}
 use Rattle.story_format.proofs.Turns.{turn_parted}
-use Rattle.story_format.proofs.StoryLemmas.{all_at, last_of_five, three}
+use Rattle.story_format.proofs.StoryLemmas.{last_of_five, three}
 
 pub loaded_sound : (t : Tables) (judged : List Judged) → AreCodesOf t judged → AreSoundTogether judged
 unfolding counts_of
@@ -56,17 +56,6 @@ entries_right t right =
     last_of_five (entries && placed && worded) (list_all (has_small_words (map is_small t.strings)) t.objects) (are_named_in_order 0 (strings_in_tables t)) (are_named_in_order 0 (heads_named t))
     (list_all (suits_kind t.world) t.objects) (right_parts t right).0 in
     (three entries placed worded p.0).0
-
-pub code_within : (t : Tables) (entry : Option Entry) (o n : ℕ) → are_right t ≡ true → slice_get t.objects o ≡ entry → description_code_in entry ≡ Some n → n < length t.codes
-code_within t None o n right at is = absurd cc
-code_within t (Some e) o n right at is =
-    elim (cases_Bool (eqb e.description 65535)) [
-      | inl none ↦ let wrong : None ≡ Some n = rw none at is in absurd cc
-      | inr isnt ↦
-          let same : Some e.description ≡ Some n = rw isnt at is in
-          let one : e.description ≡ n = cc in
-          omega (arith, one, entry_within (sizes_of t) e (all_at (is_right_entry (sizes_of t)) t.objects o e (entries_right t right) at) isnt)
-    ]
 
 all_described : (count n : ℕ) → n < count → slice_get (replicate count Describing) n ≡ Some Describing
 all_described zero n lt = absurd (omega (arith, lt))

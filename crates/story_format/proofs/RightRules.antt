@@ -1,13 +1,12 @@
 -- What a story's tables say of each rule is right, and its first actions are those that every story has.
-use Rattle.std.proofs.Common.{◌≡◌, ◌≤◌, ℕ, Bool, true, ◌&&◌, leb, ltb, [], length, Some}
+use Rattle.std.proofs.Common.{◌≡◌, ◌≤◌, ℕ, true, ◌&&◌, leb, ltb, length, Some}
 use Rattle.std.specs.Prelude.{slice_get}
 use Rattle.std.specs.List.{list_all}
 use Rattle.std.proofs.lemmas.Bool.{and_parts, leb-true}
 use Rattle.play_meaning.specs.declared.operand.Counts.{Counts}
 use Rattle.story_format.specs.Checks.{are_right, is_right_frame}
 use Rattle.story_format.specs.Counts.{counts_of}
-use Rattle.story_format.specs.RuleChecks.{are_right_actions, are_right_books, are_right_lines, are_right_rules, are_right_scenes, begin_with_actions, is_number_or_none, is_right_action, is_right_aspect, is_right_body, is_right_line, is_right_rule, is_right_scene}
-use Rattle.story_format.specs.RuleMaking.{action_entries}
+use Rattle.story_format.specs.RuleChecks.{are_right_actions, are_right_books, are_right_lines, are_right_rules, are_right_scenes, is_number_or_none, is_right_aspect, is_right_body, is_right_line, is_right_rule, is_right_scene}
 use Rattle.story_format.specs.Spells.{IsStory}
 use Rattle.story_format.specs.WorldChecks.{is_right_world}
 use Rattle.story_format.specs.declared.rule_entry.RuleEntry.{RuleEntry}
@@ -56,12 +55,3 @@ few_scenes t story = (parts_of t story).scenes
 
 pub few_lines : (t : Tables) → IsStory t → length t.rules.grammar ≤ 65535
 few_lines t story = (parts_of t story).lines
-
-pub actions_begin : (t : Tables) → IsStory t → begin_with_actions t.rules.actions (action_entries []) ≡ true
-unfolding are_right_actions
-actions_begin t story =
-    let actions = t.rules.actions in
-    (three_of (leb (length actions) 200) (begin_with_actions actions (action_entries [])) (list_all is_right_action actions) (parts_of t story).actions)
-  where
-    three_of : (a b c : Bool) → (a && b && c) ≡ true → b ≡ true
-    three_of a b c h = (and_parts a b (and_parts (a && b) c h).0).1

@@ -1,8 +1,6 @@
 //! Table 8 of every story: the sixteen actions, and behind them the author's, by what each needs.
 ghost use Rattle.std.specs.Prelude.{◌≡◌, ◌++◌, IfOk, OnOk, map};
-ghost use Rattle.play_meaning.specs.StandardActions.{standard_needs};
 ghost use Rattle.story_format.specs.RuleMaking.{action_entries, action_entry, mark_if, need_number, noun_count};
-ghost use Rattle.story_format.specs.declared.actions.TheConstants.{STANDARD_NEEDS};
 
 use crate::rule_tables::ActionEntry;
 use crate::table::Table;
@@ -124,8 +122,3 @@ pub fn action_entries(alloc: Global, actions: &[Needs]) -> Result<Table<ActionEn
     add_entries(&mut entries, actions)?;
     Ok(Table::new(entries))
 }
-
-/// They are what the definition of play says that the actions need.
-pub fn needs_are_the_standard_ones()
-    ensures { STANDARD_NEEDS ≡ standard_needs }
-{}

@@ -1,30 +1,26 @@
 -- What a session answers where what was done came to its end, or was abandoned.
 use Rattle.std.proofs.Common.{◌≡◌, ◌≢◌, ◌∙◌, ap, sym, refl, subst, ℕ, Bool, true, false, List, [], Option, None, Some, Err}
-use Rattle.std.specs.Prelude.{if◌then◌else◌}
 use Rattle.world_meaning.specs.declared.session.Abandon.{Abandon}
-use Rattle.world_meaning.specs.declared.session.Abandon.TheVariants.{Memory, NestedTooDeep, NumberOutOfRange, TooMuchWork}
+use Rattle.world_meaning.specs.declared.session.Abandon.TheVariants.{Memory}
 use Rattle.world_meaning.specs.declared.session.ReplyKind.{ReplyKind}
-use Rattle.world_meaning.specs.declared.session.ReplyKind.TheVariants.{Abandoned, Free}
+use Rattle.world_meaning.specs.declared.session.ReplyKind.TheVariants.{Free}
 use Rattle.play_meaning.specs.Attempts.{Attempt}
 use Rattle.play_meaning.specs.CodedStories.{game_of_codes}
-use Rattle.play_meaning.specs.Games.{Acts, Game}
+use Rattle.play_meaning.specs.Games.{Game}
 use Rattle.play_meaning.specs.Progress.{Progress, fresh}
-use Rattle.play_meaning.specs.Sessions.{Answer, State, abandon_text, abandoned, acted, closed, goes_on_behind, opened, parted_by_break, played}
+use Rattle.play_meaning.specs.Sessions.{Answer, State, abandon_text, abandoned, closed, opened, parted_by_break, played}
 use Rattle.play_meaning.specs.Turns.{opening}
 use Rattle.play_meaning.specs.Worlds.{World}
-use Rattle.play_meaning.specs.declared.action.ActionNow.{ActionNow}
 use Rattle.story_format.specs.declared.tables.Tables.{Tables}
 use Rattle.world_store.specs.StartWorlds.{start_world}
 use Rattle.world_store.specs.StoryWorlds.{StoryWorld}
 use Rattle.action_stages.specs.Answering.{Breaks}
 use Rattle.world_store.specs.StoryPlay.{coded_story, game_in_play}
 use Rattle.story_player.specs.Begun.{IsBegun}
-use Rattle.story_player.specs.Given.{IsGiven, said_behind, so_far}
+use Rattle.story_player.specs.Given.{said_behind, so_far}
 use Rattle.story_player.specs.Refusals.{is_refusal}
 use Rattle.story_player.specs.Turns.{IsToldBehind, IsToldOf, deed_answer, done_by, ending_told, is_turn, kept_by, kind_by, kind_told, told_text}
-use Rattle.story_player.specs.declared.commands.Given.{Given}
 use Rattle.story_player.specs.declared.deed.Deed.{Deed}
-use Rattle.story_player.specs.declared.deed.Deed.TheVariants as deed
 
 -- ---- where play has come to an end
 
@@ -58,41 +54,6 @@ deed_told d g s to is_kept kind w before after is told kind_is state =
     ∙ ap (said_behind before) (sym (played_to (kind_by is_kept) (kept_by is_kept s) s (done_by d g (fresh s.world)) w told.text told.is))
     ∙ ap (λ kept. said_behind before (answer kept)) is
     ∙ ap (λ refused. said_behind before (deed_answer d g refused s)) (sym (ap is_refusal kind_is ∙ no_refusal is_kept w.ended))
-
-broke_answer : (d : Deed) (g : Game) (s : State) (reason : Abandon) → Breaks (done_by d g (fresh s.world)) reason
-    → abandoned reason s ≡ deed_answer d g (is_refusal (Abandoned reason)) s
-broke_answer d g s Memory broke = refl
-broke_answer d g s NestedTooDeep broke = ap (played (kind_by (is_turn d)) (kept_by (is_turn d) s) s) (sym (broke (λ is. absurd cc)))
-broke_answer d g s TooMuchWork broke = ap (played (kind_by (is_turn d)) (kept_by (is_turn d) s) s) (sym (broke (λ is. absurd cc)))
-broke_answer d g s NumberOutOfRange broke = ap (played (kind_by (is_turn d)) (kept_by (is_turn d) s) s) (sym (broke (λ is. absurd cc)))
-
--- it was abandoned, in a state that is as it was
-pub deed_broke : (d : Deed) (g : Game) (s here to : State) (reason : Abandon) (kind : ReplyKind) (before after : List ℕ)
-    → here ≡ s → Breaks (done_by d g (fresh s.world)) reason → so_far after kind to ≡ said_behind before (abandoned reason here)
-    → so_far after kind to ≡ said_behind before (deed_answer d g (is_refusal kind) s)
-deed_broke d g s here to reason kind before after same broke answer =
-    let whole : so_far after kind to ≡ said_behind before (abandoned reason s) = answer ∙ ap (λ (s : State). said_behind before (abandoned reason s)) same in
-    whole ∙ ap (said_behind before) (broke_answer d g s reason broke)
-    ∙ ap (λ kind. said_behind before (deed_answer d g (is_refusal kind) s)) (sym (ap (λ (a : Answer). a.kind) whole))
-
--- ---- what a reading gives
-
--- an action by itself, or in a turn
-pub acts_alone : (g : Game) (s to : State) (now : ActionNow) (before after : List ℕ) (given : Given) → (g.needs now.action).out_of_world ≡ true
-    → so_far after given.kind to ≡ said_behind before (deed_answer (deed.Alone now) g (is_refusal given.kind) s) → given.goes_on ≡ goes_on_behind given.kind
-    → IsGiven g (Acts now) s to before after given
-acts_alone g s to now before after given apart answer on = record {
-  answer = answer ∙ ap (λ out. said_behind before (if is_refusal given.kind then abandoned Memory s else acted out g now s)) (sym apart);
-  goes_on = on;
-}
-
-pub acts_in_turn : (g : Game) (s to : State) (now : ActionNow) (before after : List ℕ) (given : Given) → (g.needs now.action).out_of_world ≡ false
-    → so_far after given.kind to ≡ said_behind before (deed_answer (deed.Turn now) g (is_refusal given.kind) s) → given.goes_on ≡ goes_on_behind given.kind
-    → IsGiven g (Acts now) s to before after given
-acts_in_turn g s to now before after given within answer on = record {
-  answer = answer ∙ ap (λ out. said_behind before (if is_refusal given.kind then abandoned Memory s else acted out g now s)) (sym within);
-  goes_on = on;
-}
 
 -- ---- the beginning
 

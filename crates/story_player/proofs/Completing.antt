@@ -1,9 +1,7 @@
 -- What a text is with a line break at its end.
-use Rattle.std.proofs.Common.{◌≡◌, ◌∙◌, ap, sym, refl, ℕ, suc, ◌-◌, Bool, true, false, List, [], ◌∷◌, length, arith}
+use Rattle.std.proofs.Common.{◌≡◌, ◌∙◌, ap, refl, ℕ, suc, ◌-◌, false, List, [], ◌∷◌, length, arith}
 use Rattle.std.specs.Prelude.{not, ◌==◌, slice_index_or}
-use Rattle.std.proofs.lemmas.Bool.{not-false}
-use Rattle.play_meaning.specs.Turns.{completed, ends_in_break}
-use Rattle.world_meaning.specs.Texts.{said}
+use Rattle.play_meaning.specs.Turns.{ends_in_break}
 use Rattle.story_player.specs.Turns.{lacks_break}
 
 -- whether a text ends in a break is told by its last byte
@@ -17,15 +15,3 @@ break_lacking (b ∷ bytes) otherwise some = ap (λ n. not (slice_index_or (b �
   where
     one_less : (n : ℕ) → suc n - 1 ≡ n
     one_less n = omega arith
-
-pub completed_with : (bytes : List ℕ) → lacks_break bytes ≡ true → said bytes ≡ completed bytes
-completed_with [] lacks = absurd cc
-completed_with (b ∷ bytes) lacks = sym (rw (not_true (ends_in_break (b ∷ bytes)) lacks) refl)
-  where
-    not_true : (x : Bool) → not x ≡ true → x ≡ false
-    not_true false is = refl
-    not_true true is = absurd cc
-
-pub completed_without : (bytes : List ℕ) → lacks_break bytes ≡ false → bytes ≡ completed bytes
-completed_without [] lacks = refl
-completed_without (b ∷ bytes) lacks = sym (rw (not-false (ends_in_break (b ∷ bytes)) lacks) refl)

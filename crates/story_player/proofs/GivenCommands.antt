@@ -25,10 +25,6 @@ parted-assoc (x ∷ xs) [] c = refl
 parted-assoc (x ∷ xs) (y ∷ ys) [] = refl
 parted-assoc (x ∷ xs) (y ∷ ys) (z ∷ zs) = append_assoc (x ∷ xs) (10 ∷ y ∷ ys) (10 ∷ z ∷ zs)
 
-pub parted-nothing : (a : List ℕ) → parted_by_break a [] ≡ a
-parted-nothing [] = refl
-parted-nothing (x ∷ xs) = refl
-
 -- ---- what goes on
 
 -- no refusal is followed

@@ -62,9 +62,6 @@ is_turn (deed.Alone now) = false
 is_turn (deed.Turn now) = true
 is_turn (deed.TurnUpon action objects) = true
 
-abbrev pub taken_up : Bool → State → World → List ℕ → Answer
-taken_up is_kept s w text = record { text = text; kind = kind_told (kind_by is_kept) w.ended; state = record s { world = w; kept = kept_by is_kept s; question = None; ending = ending_told w.ended } }
-
 -- what is answered to a deed; memory may have been refused
 abbrev pub deed_answer : Deed → Game → Bool → State → Answer
 deed_answer d g refused s = if refused then abandoned Memory s else played (kind_by (is_turn d)) (kept_by (is_turn d) s) s (done_by d g (fresh s.world))

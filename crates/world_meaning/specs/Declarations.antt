@@ -9,10 +9,6 @@ use Rattle.world_meaning.specs.declared.declared.ValueKind.{ValueKind}
 use Rattle.world_meaning.specs.declared.kinds.TheConstants.{ROOTS}
 use Rattle.world_meaning.specs.declared.tale.Object.{Object}
 
--- the built-in kinds and properties alone
-unfoldable pub built_in_declared : Declared
-built_in_declared = record { kinds = built_in_parents; flags = map (λ p. record { kinds = p.kinds }) built_in_properties; numbers = []; variables = []; scenes = []; rulebooks = 0; actions = []; values = [] }
-
 -- each number is above the one before it, and the first is not below next
 unfoldable pub are_rising : ℕ → List ℕ → Bool
 are_rising next [] = true

@@ -1,12 +1,9 @@
 //! What a source declares besides its objects: kinds, properties, variables, scenes, rulebooks, actions and kinds of value.
-ghost use Rattle.std.specs.Prelude.{◌≡◌, [], IfOk, map};
-ghost use Rattle.world_meaning.specs.Declarations.{built_in_declared};
 
-use crate::kinds::{KindNo, PROPERTIES, PropertyRow, built_in_parents};
+use crate::kinds::KindNo;
 use crate::listed::Listed;
 use crate::needs::Needs;
 use crate::text::TextBytes;
-use std::alloc::{AllocError, Global};
 
 /// A property: the kinds that it is given to, rising.
 #[derive(Debug, Drop)]
@@ -41,49 +38,4 @@ pub struct Declared {
     pub actions: Listed<Needs>,
     /// The kinds of value, by number.
     pub values: Listed<ValueKind>,
-}
-
-fn granted_to(alloc: Global, kinds: &[u8]) -> Result<Granted, AllocError>
-    ensures { IfOk result (λ granted. granted ≡ record { kinds = kinds.now }) }
-{
-    Ok(Granted {
-        kinds: Listed::new(Vec::from_slice(alloc, kinds)?),
-    })
-}
-
-/// The kinds that have each of these properties.
-fn granted_by(alloc: Global, rows: &[PropertyRow<'_>]) -> Result<Listed<Granted>, AllocError>
-    ensures { IfOk result (λ granted. granted ≡ map (λ row. record { kinds = row.2.now }) rows.now) }
-{
-    let mut all = Vec::new(alloc);
-    let mut rest = rows;
-    while let [row, after @ ..] = rest {
-        all.push(granted_to(alloc, row.2)?)?;
-        rest = after;
-    }
-    Ok(Listed::new(all))
-}
-
-/// No values.
-fn none<T: Drop>(alloc: Global) -> Listed<T>
-    ensures { result ≡ [] }
-{
-    Listed::new(Vec::new(alloc))
-}
-
-/// The built-in kinds and properties alone.
-#[tactic(auto, unfolding(crate::specs::Declarations::built_in_declared, crate::specs::Properties::built_in_properties))]
-pub fn built_in_declared(alloc: Global) -> Result<Declared, AllocError>
-    ensures { IfOk result (λ declared. declared ≡ built_in_declared) }
-{
-    Ok(Declared {
-        kinds: Listed::new(built_in_parents(alloc)?),
-        flags: granted_by(alloc, &PROPERTIES)?,
-        numbers: none(alloc),
-        variables: none(alloc),
-        scenes: none(alloc),
-        rulebooks: 0,
-        actions: none(alloc),
-        values: none(alloc),
-    })
 }

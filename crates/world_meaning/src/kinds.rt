@@ -1,6 +1,6 @@
 //! The built-in kinds and either-or properties, and which kind lies under which.
 ghost use Rattle.std.specs.Prelude.{◌≡◌, IfOk, map};
-ghost use Rattle.world_meaning.specs.Kinds.{built_in_parents, is_under};
+ghost use Rattle.world_meaning.specs.Kinds.{built_in_parents, is_under, is_under_one};
 
 use std::alloc::{AllocError, Global};
 use std::marker::Model;
@@ -175,4 +175,13 @@ pub fn is_under(parents: &[Option<KindNo>], kind: KindNo, other: KindNo) -> bool
         left = after;
     }
     at == other
+}
+
+/// Whether a kind lies under one of these, or is it.
+pub fn is_under_one(parents: &[Option<KindNo>], others: &[u8], kind: KindNo) -> bool
+    ensures { result ≡ is_under_one parents.now others.now kind }
+{
+    others
+        .iter()
+        .any(|other| is_under(parents, kind, KindNo::new(*other)))
 }

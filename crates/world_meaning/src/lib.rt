@@ -16,7 +16,6 @@ mod needs;
 mod numbers;
 mod place;
 mod placing_laws;
-mod properties;
 mod session;
 mod sight_laws;
 mod sorts;
@@ -26,7 +25,7 @@ mod text;
 
 pub use article::{Article, is_article};
 pub use chain_laws::walks_tell_ends;
-pub use declared::{Declared, Granted, ValueKind, built_in_declared};
+pub use declared::{Declared, Granted, ValueKind};
 pub use direction::{DIRECTIONS, Direction, DirectionRow};
 pub use exits::{Exits, Way};
 pub use fault::{Fault, FaultCode};
@@ -34,13 +33,13 @@ pub use holders::have_ends;
 pub use kind_laws::steps_tell_kinds;
 pub use kinds::{
     KINDS, KindNo, KindRow, PROPERTIES, PropertyRow, ROOTS, built_in_parents, is_under,
+    is_under_one,
 };
 pub use listed::Listed;
 pub use needs::{Needs, Slot};
 pub use numbers::ObjNo;
 pub use place::{Place, Rel};
 pub use placing_laws::placing_keeps_its_rules;
-pub use properties::{is_under_one, start_properties};
 pub use session::{Abandon, Ending, ReplyKind};
 pub use sight_laws::{
     boxes_hide_and_keep, light_comes_from_inside, places_are_seen, the_dark_hides,

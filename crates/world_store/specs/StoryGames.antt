@@ -1,8 +1,7 @@
 -- The game of a story that was loaded: it is told by what the tables say of the objects.
-use Rattle.play_meaning.specs.Games.{Game}
 use Rattle.play_meaning.specs.Grounds.{telling_by}
 use Rattle.play_meaning.specs.Commands.{read}
-use Rattle.play_meaning.specs.PlainStories.{PlainStory, game_of_plain}
+use Rattle.play_meaning.specs.PlainStories.{PlainStory}
 use Rattle.story_format.specs.Codes.{codes_told}
 use Rattle.story_format.specs.Facts.{description_code_of}
 use Rattle.story_format.specs.declared.tables.Tables.{Tables}
@@ -18,6 +17,3 @@ plain_story t = record {
   describes = (telling_by (codes_told t) (setting_of t) (description_code_of t)).describes;
   reads = read (grammar_of t);
 }
-
-abbrev pub game_of_story : Tables → Game
-game_of_story t = game_of_plain (plain_story t)
