@@ -12,6 +12,8 @@ mod worked_rows;
 
 pub use compiler::compile;
 pub use i7_kinds::tale_of;
-pub use laws::{actions_are_numbered_alike, meant_tales_are_held, never_compiled_and_refused, one_tale};
+pub use laws::{
+    actions_are_numbered_alike, meant_tales_are_held, never_compiled_and_refused, one_tale,
+};
 pub use story_format::{LoadFault, Story, load, write};
 pub use worked_rows::{empty_source_is_refused, two_rooms_are_played};
