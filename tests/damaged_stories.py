@@ -2,7 +2,8 @@
 """Damaged story files: each cut, each flipped bit and many random changes of a story are judged by a plain reader of the format
 (tests/plain_stories.py), and the program must say the same: the fault, or what the story tells at first, as far as its rules of
 looking tell it; of a story with other rules there, that it plays. Of many more, among them
-each cut and each flipped bit of a story with rules, books and scenes and of the stories of some sources of tests/bodies, the
+each cut and each flipped bit of a story with rules, books and scenes, of one with kinds of value and of the stories of some sources
+of tests/bodies, the
 program of `story_calls` must say it, and tell the same to `look`.
 
 Use: tests/damaged_stories.py PROGRAM    (the program of `i7story`; that of `story_calls` stands beside it)"""

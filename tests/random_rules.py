@@ -1,6 +1,6 @@
 #!/usr/bin/env python3
-"""Sources of rules with random heads, of sentences that list these and standard rules, and of some that declare actions or say what
-commands and words mean: 300 that are taken, whose tables 8 to 12 and the actions that their rules try are those that a plain reading
+"""Sources of rules with random heads, of sentences that list these and standard rules, and of some that declare actions, say what
+commands and words mean or say on what scenes begin and end: 300 that are taken, whose tables 8 to 12 and the actions that their rules try are those that a plain reading
 tells (tests/rule_sources.py), and 300 with rules, listings, actions or commands among them that are refused: the code that is looked
 for first is told, at the first of these of which it stands.
 

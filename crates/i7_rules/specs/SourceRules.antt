@@ -30,7 +30,7 @@ IsFound k r = IsRuleFound k r.line r.rule
 abbrev pub IsUnknown : Known → Placed → ℕ → Type 0
 IsUnknown k p line = IsFound k p.rule (found.Unknown line)
 
--- the rule's place is no room
+-- the rule's place is no room, or its head asks for a value
 abbrev pub IsMisplaced : Known → Placed → ℕ → Type 0
 IsMisplaced k p line = IsFound k p.rule found.WrongKind × (line ≡ p.rule.line)
 

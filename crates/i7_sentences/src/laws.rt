@@ -68,8 +68,8 @@ pub fn spelled_or_refused()
     ensures never_both { (tokens : List Token) (sentences : List Sentence) (fault : Fault) → HasSentences tokens sentences → fault.code ≢ Memory → IsRefused tokens fault → ⊥ }
 {}
 
-/// A form that is part of the language says something wherever it is the reading of a part, so that the part
-/// is a sentence or has a reserved word in a name, but for a text that may not describe.
+/// A form that is no rule's, no `Understand`, and tells no scene's beginning or end, says something wherever it is the reading of a
+/// part, so that the part is a sentence or has a reserved word in a name, but for a text that may not describe.
 pub fn forms_that_fit_speak()
     ensures { (kinds : List Words) (part : Piece) (variant : Variant) (letters : List (List Token)) → IsReadWith kinds part.tokens variant letters → IsSpeaking kinds variant part }
 {}

@@ -64,7 +64,8 @@ pub fn story_carries_tale()
 {}
 
 /// A story file says descriptions that say bytes alone, each at most 65,535, where there is no rule, nothing begins or ends a
-/// scene, and there are 184 actions of the author's at most, none with a second noun alone.
+/// scene, no object's name has over 32 words, the names of values have at most 65,535 bytes, and there are 184 actions of the
+/// author's at most, none with a second noun alone.
 pub fn plain_texts_are_held()
     ensures { PlainTextsAreHeld }
 {}

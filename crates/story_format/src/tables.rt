@@ -80,7 +80,7 @@ pub struct Tables {
     pub ways: Table<Exits>,
     /// Tables 8 to 12.
     pub rules: RuleTables,
-    /// Table 13: what the story does: the descriptions, and the tests that codes name.
+    /// Table 13: the codes of descriptions, of rules and of what scenes begin and end on, and the tests that codes name.
     pub codes: Table<TextBytes>,
     /// Tables 14 and 15; empty where there is no kind of value.
     pub values: ValueTables,
