@@ -1,5 +1,5 @@
 -- What sentences claim of names, in small letters: one clause a form.
-use Rattle.std.specs.Prelude.{ℕ, ◌+◌, ℤ, List, [], ◌∷◌, ◌++◌, flat_map, fold, map, true, Option, Some, None, bytes_eq, codes, if◌then◌else◌}
+use Rattle.std.specs.Prelude.{ℕ, ◌+◌, ℤ, Bool, false, List, [], ◌∷◌, ◌++◌, flat_map, fold, map, true, Option, Some, None, bytes_eq, codes, if◌then◌else◌}
 use Rattle.world_meaning.specs.Spelling.{lowered}
 use Rattle.world_meaning.specs.declared.place.Rel.{Rel}
 use Rattle.world_meaning.specs.declared.place.Rel.TheVariants.{In, On, Carried, Worn, Part}
@@ -9,8 +9,10 @@ use Rattle.i7_sentences.specs.declared.sentence.Assertion.TheVariants as asserti
 use Rattle.i7_sentences.specs.declared.sentence.Being.{Being}
 use Rattle.i7_sentences.specs.declared.sentence.Holder.{Holder}
 use Rattle.i7_sentences.specs.declared.sentence.Sentence.{Sentence}
+use Rattle.object_words.specs.Mentions.{mention}
 use Rattle.i7_claims.specs.Beings.{names_said}
 use Rattle.i7_claims.specs.NameScans.{Standings, built_in_standings, with_claim}
+use Rattle.i7_claims.specs.Numbers.{has_name}
 use Rattle.i7_claims.specs.Standings.{is_number_name, is_variable_name}
 use Rattle.i7_claims.specs.Statements.{key_of}
 use Rattle.i7_claims.specs.Plurals.{kind_named}
@@ -255,10 +257,30 @@ claims_said known said line = numbers_said known said line
 abbrev pub claims_in : Standings → Sentence → List Claim
 claims_in known sentence = claims_said known sentence.said sentence.line
 
+-- ---- what sentences declare, wherever they stand
+
+-- a sentence that lists the values of one of these kinds of value
+abbrev pub is_listed : List (List ℕ) → Assertion → Bool
+is_listed kinds (assertion.Values kind values) = has_name kinds (key_of kind.text)
+is_listed kinds _ = false
+
+abbrev pub with_listed : List (List ℕ) → Assertion → List (List ℕ)
+with_listed kinds (assertion.Values kind values) = mention kinds (key_of kind.text)
+with_listed kinds _ = kinds
+
+-- what a sentence declares where the values of these kinds of value are listed before it: the values of a second list aren't looked at
+abbrev pub declared_once : List (List ℕ) → Sentence → List Claim
+declared_once kinds sentence = if is_listed kinds sentence.said then [] else declares_in sentence
+
+abbrev pub declares_from : List (List ℕ) → List Sentence → List Claim
+declares_from kinds [] = []
+declares_from kinds (sentence ∷ sentences) = declared_once kinds sentence ++ declares_from (with_listed kinds sentence.said) sentences
+
 -- what names stand for by the declarations, wherever they are
 abbrev pub known_by : List Sentence → Standings
-known_by sentences = fold with_claim built_in_standings (flat_map declares_in sentences)
+known_by sentences = fold with_claim built_in_standings (declares_from [] sentences)
 
--- what a source claims
+-- ---- what a source claims
+
 abbrev pub claims_of : List Sentence → List Claim
 claims_of sentences = flat_map (claims_in (known_by sentences)) sentences

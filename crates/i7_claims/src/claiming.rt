@@ -2,7 +2,7 @@
 ghost use Rattle.std.specs.Prelude.{◌≡◌, ◌++◌, ◌∷◌, [], flat_map, map, IfOk, OnOk};
 ghost use Rattle.world_meaning.specs.Spelling.{lowered as small};
 ghost use Rattle.i7_claims.specs.Beings.{holders_in};
-ghost use Rattle.i7_claims.specs.Claims.{being_claims, claimed, claims_in, claims_of, claims_said, declares_in, declares_said, either_or, grant_of, holding_claims, known_by, lies, named};
+ghost use Rattle.i7_claims.specs.Claims.{being_claims, claimed, claims_in, claims_of, claims_said, declares_said, either_or, grant_of, holding_claims, known_by, lies, named};
 ghost use Rattle.i7_claims.specs.NameScans.{IsShort, standing_at};
 ghost use Rattle.i7_claims.specs.Statements.{key_of};
 ghost use Rattle.i7_claims.specs.declared.claim.Fact.TheVariants.{CanBe, HasNumber, Rulebook};
@@ -11,6 +11,7 @@ ghost use Rattle.i7_claims.specs.declared.claim.Standing.TheVariants as stands;
 use crate::built_in::built_in_namings;
 use crate::choosing::{add_has_value, add_values};
 use crate::claim::{Claim, Fact, Grant, Lying, Naming, Standing};
+use crate::declaring::declares_of;
 use crate::demanding::{add_held, add_placings, add_what};
 use crate::leading::{add_door, add_way};
 use crate::names::key_of;
@@ -245,19 +246,6 @@ pub fn add_declares(
         }
         _ => Ok(()),
     }
-}
-
-/// What the sentences declare besides objects.
-fn declares_of(alloc: Global, sentences: &[Sentence]) -> Result<Vec<Claim>, AllocError>
-    ensures { IfOk result (λ claims. claims.items ≡ flat_map declares_in sentences.now) }
-{
-    let mut claims = Vec::new(alloc);
-    let mut rest = sentences;
-    while let [sentence, after @ ..] = rest {
-        add_declares(alloc, &mut claims, &sentence.said, sentence.line)?;
-        rest = after;
-    }
-    Ok(claims)
 }
 
 /// Adds what is claimed of what holds things, and of them.

@@ -8,6 +8,7 @@ mod claim;
 mod claim_laws;
 mod claimed;
 mod claiming;
+mod declaring;
 mod demanding;
 mod kinds;
 mod leading;

@@ -30,7 +30,7 @@ use Rattle.i7_claims.specs.Wording.{usual_said, what_said}
 use Rattle.i7_claims.specs.declared.claim.Claim.{Claim}
 use Rattle.i7_claims.specs.declared.claim.Value.{Value}
 use Rattle.i7_claims.specs.declared.claim.Fact.{Fact}
-use Rattle.i7_claims.specs.declared.claim.Fact.TheVariants.{Stands, Lies, Rulebook}
+use Rattle.i7_claims.specs.declared.claim.Fact.TheVariants.{Stands, Lies, Rulebook, Values}
 use Rattle.i7_claims.specs.declared.claim.Standing.{Standing}
 use Rattle.i7_claims.specs.declared.claim.Standing.TheVariants as stands
 use Rattle.i7_claims.specs.declared.wording.What.{What}
@@ -56,11 +56,12 @@ each_flat : {X : Type 0} (Is : Fact → Type 0) (f : X → List Claim) (xs : Lis
 each_flat Is f [] h = tt
 each_flat Is f (x ∷ xs) h = each_append Is (f x) (flat_map f xs) (h x) (each_flat Is f xs h)
 
--- a fact declares nothing but objects
+-- a fact declares nothing but objects, and lists no values
 abbrev pub IsPlain : Fact → Type 0
 IsPlain (Stands n) = n.standing ≡ stands.Object
 IsPlain (Lies l) = ⊥
 IsPlain (Rulebook name) = ⊥
+IsPlain (Values listing) = ⊥
 IsPlain _ = Unit {0}
 
 abbrev ArePlain : List Claim → Type 0

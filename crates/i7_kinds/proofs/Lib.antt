@@ -14,6 +14,7 @@ pub mod KindsMeant
 pub mod KindsDeclared
 pub mod KindsOne
 pub mod KindsStand
+pub mod FirstLists
 pub mod SameStandings
 pub mod SameClaims
 pub mod SameObjects

@@ -12,7 +12,7 @@ use Rattle.world_meaning.specs.declared.tale.Object.{Object}
 use Rattle.world_meaning.specs.declared.tale.Tale.{Tale}
 use Rattle.i7_sentences.specs.declared.sentence.Sentence.{Sentence}
 use Rattle.i7_claims.specs.Claims.{claims_of}
-use Rattle.i7_claims.specs.NameScans.{name_twice}
+use Rattle.i7_claims.specs.NameScans.{book_twice, list_twice, name_twice}
 use Rattle.i7_claims.specs.Scans.{earlier}
 use Rattle.i7_claims.specs.Statements.{NameAt, Named, built_in_keys, has_key, key_of, named_by, names_at, stated_by, with_name, with_names_of}
 use Rattle.i7_claims.specs.declared.claim.Claim.{Claim}
@@ -35,6 +35,7 @@ use Rattle.i7_kinds.proofs.NamesOnce.{StandOnce, none_once, once_mention, once_m
 
 pub record NoneFound (claims : List Claim) (keys : List (List ℕ)) : Type 0 where
   pub once : name_twice claims ≡ None
+  pub listed : list_twice claims ≡ None
   pub known : unknown_kind (kind_names claims) claims ≡ None
   pub ends : kind_cycle (kind_names claims) claims ≡ None
   pub on_path : off_path (scope_of claims keys) claims ≡ None
@@ -52,8 +53,10 @@ none_found claims keys statements mentions none =
     let room = first_room s.parents knowns in
     let t = first_none_both (frame_refusal faults mentions room) (limit_refusal claims (descriptions_of s.parents knowns statements) mentions) none in
     let parts = frame_parts faults mentions room t.0 in
+    let names = earlier_none (name_twice claims) _ (none_twice faults mentions room t.0) in
     record {
-      once = (earlier_none (name_twice claims) _ (none_twice faults mentions room t.0)).0;
+      once = names.0;
+      listed = (earlier_none (list_twice claims) _ (earlier_none (book_twice claims) _ names.1).1).0;
       known = parts.unknown;
       ends = (earlier_none (kind_cycle s.kinds claims) (holder_cycle s.objects claims) parts.cycle).0;
       on_path = (earlier_none (off_path s claims) (earlier (unsuited s knowns claims) (wrong_kind s.parents knowns statements)) parts.wrong).0;

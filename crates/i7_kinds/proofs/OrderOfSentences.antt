@@ -55,8 +55,10 @@ pub order_is_nothing : OrderIsNothingToKinds
 order_is_nothing these those tale other same means means_too i j object twin at at_too named =
     let found = accepted these tale means in
     let found_too = accepted those other means_too in
-    let to = claimed_in_both these those same found.once found_too.once in
-    let from = claimed_in_both those these (the_other_way these those same) found_too.once found.once in
+    let once = (found.once, found.listed) in
+    let once_too = (found_too.once, found_too.listed) in
+    let to = claimed_in_both these those same once once_too in
+    let from = claimed_in_both those these (the_other_way these those same) once_too once in
     let a = kinds_meant these tale i object means at in
     let b = kinds_meant those other j twin means_too at_too in
     let has : HasKind (claims_of those) (key_of twin.name) a.0 = subst (λ (name : List ℕ). HasKind (claims_of those) name a.0) named

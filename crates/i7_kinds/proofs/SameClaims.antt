@@ -1,6 +1,6 @@
 -- Sources that assert the same, each accepted, claim the same: what is claimed rests on no line and no order.
-use Rattle.std.proofs.Common.{◌+◌, ◌≡◌, ℕ, ℤ, Bool, true, false, cond, List, [], ◌∷◌, ◌++◌, map, Option, refl, sym, ◌∙◌, subst, inl, inr, ◌⊎◌, ⊎_elim}
-use Rattle.std.specs.Prelude.{Some, None, flat_map}
+use Rattle.std.proofs.Common.{◌+◌, ◌≡◌, ℕ, ℤ, Bool, true, false, cond, List, [], ◌∷◌, ◌++◌, map, Option, refl, sym, ap, ◌∙◌, subst, inl, inr, ◌⊎◌, ⊎_elim}
+use Rattle.std.specs.Prelude.{Some, None, flat_map, fold}
 use Rattle.world_meaning.specs.declared.place.Rel.{Rel}
 use Rattle.world_meaning.specs.declared.place.Rel.TheVariants.{In, On, Carried, Worn, Part}
 use Rattle.i7_sentences.specs.declared.name.Name.{Name}
@@ -12,7 +12,7 @@ use Rattle.i7_sentences.specs.declared.sentence.Sentence.{Sentence}
 use Rattle.i7_claims.specs.Beings.{names_said}
 use Rattle.i7_claims.specs.Claims.{being_claims, claims_of, claims_said, declares_said, demands, demands_said, has_all, has_quality, holder_demands, kind_said, known_by, choice_said, has_choice, usually_choice, values_from}
 use Rattle.i7_claims.specs.Claims.{named, number_claim, placed, placings_said, qualities_said, start_claim, usual_claims, usual_kind, usual_number, usual_quality, what_claims, worn_claims}
-use Rattle.i7_claims.specs.NameScans.{Standings, built_in_standings, name_twice}
+use Rattle.i7_claims.specs.NameScans.{Standings, built_in_standings, list_twice, name_twice, with_claim}
 use Rattle.i7_claims.specs.Standings.{is_number_name, is_variable_name}
 use Rattle.i7_claims.specs.Statements.{key_of}
 use Rattle.i7_claims.specs.Wording.{usual_said, what_said}
@@ -22,6 +22,7 @@ use Rattle.i7_claims.specs.declared.claim.Fact.{Fact}
 use Rattle.i7_claims.specs.declared.claim.Standing.TheVariants as stands
 use Rattle.i7_claims.specs.declared.wording.What.{What}
 use Rattle.i7_kinds.specs.KindsMeant.{IsClaimed, IsSaid, SayTheSame, is_claiming}
+use Rattle.i7_kinds.proofs.FirstLists.{declares_once}
 use Rattle.i7_kinds.proofs.SameStandings.{SameClaimed, none_twice_declared, same_standings}
 
 -- ---- the same facts, on other lines
@@ -214,13 +215,19 @@ module _ (claims_by : Assertion → ℕ → List Claim) (lines : (said : Asserti
 
 -- ---- two accepted sources
 
-pub same_known : (these those : List Sentence) → SayTheSame these those → name_twice (claims_of these) ≡ None → name_twice (claims_of those) ≡ None → known_by these ≡ known_by those
+-- no name stands for two things, and no kind of value is listed twice
+abbrev pub AreOnce : List Claim → Type 0
+AreOnce claims = (name_twice claims ≡ None) × (list_twice claims ≡ None)
+
+pub same_known : (these those : List Sentence) → SayTheSame these those → AreOnce (claims_of these) → AreOnce (claims_of those) → known_by these ≡ known_by those
 same_known these those same once once_too =
+    let known_from = fold with_claim built_in_standings in
     let to = claimed_too declares_said same_declared declaring these those (λ said is. (same said is).0) in
     let from = claimed_too declares_said same_declared declaring those these (λ said is. (same said is).1) in
-    same_standings _ _ to from built_in_standings (none_twice_declared these once) (none_twice_declared those once_too)
+    ap known_from (declares_once these once.1) ∙ same_standings _ _ to from built_in_standings (none_twice_declared these once.0) (none_twice_declared those once_too.0)
+    ∙ ap known_from (sym (declares_once those once_too.1))
 
-pub claimed_in_both : (these those : List Sentence) → SayTheSame these those → name_twice (claims_of these) ≡ None → name_twice (claims_of those) ≡ None
+pub claimed_in_both : (these those : List Sentence) → SayTheSame these those → AreOnce (claims_of these) → AreOnce (claims_of those)
     → SameClaimed (claims_of these) (claims_of those)
 claimed_in_both these those same once once_too f h =
     let claimed = claimed_too (claims_said (known_by these)) (same_said (known_by these)) (claiming_of (known_by these)) these those (λ said is. (same said is).0) f h in

@@ -159,17 +159,19 @@ property_decides s kind property =
     (λ given. Decides-and (given.property == property) (is_under s.parents kind given.kind) (Decides-eqb given.property property) (climbs_decide s.parents kind given.kind))
     s.givens)
 
-lacking_decides : (s : Scope) (knowns : List Known) (o property : ℕ) → Decides (not (is_parted_at knowns o) && not (can_be s (kind_of (known_at knowns o)) property)) (IsLacking s knowns o property)
-lacking_decides s knowns o property =
-    Decides-like _ (λ t. record { apart = t.0; lacks = t.1 }) (λ l. (l.apart, l.lacks))
-    (Decides-and (not (is_parted_at knowns o)) (not (can_be s (kind_of (known_at knowns o)) property)) (Decides-not (is_parted_at knowns o) (apart_decides knowns o))
-    (Decides-not (can_be s (kind_of (known_at knowns o)) property) (property_decides s (kind_of (known_at knowns o)) property)))
-
 never_decides : (value : Value) → Decides (is_never_said value) (value ≡ Never)
 never_decides Never = (λ h. refl, λ h. refl)
 never_decides (Truth truth) = never (λ h. absurd cc)
 never_decides (Amount number) = never (λ h. absurd cc)
 never_decides (Choice place) = never (λ h. absurd cc)
+
+lacking_decides : (s : Scope) (knowns : List Known) (o property : ℕ) (value : Value)
+    → Decides (not (is_parted_at knowns o) && (is_never_said value || not (can_be s (kind_of (known_at knowns o)) property))) (IsLacking s knowns o property value)
+lacking_decides s knowns o property value =
+    let kind = kind_of (known_at knowns o) in
+    Decides-like _ (λ t. record { apart = t.0; lacks = t.1 }) (λ l. (l.apart, l.lacks))
+    (Decides-and (not (is_parted_at knowns o)) (is_never_said value || not (can_be s kind property)) (Decides-not (is_parted_at knowns o) (apart_decides knowns o))
+    (Decides-or (is_never_said value) (not (can_be s kind property)) (never_decides value) (Decides-not (can_be s kind property) (property_decides s kind property))))
 
 unsuited_decides : (s : Scope) (knowns : List Known) (f : Fact) → Decides (is_unsuited s knowns f) (IsUnsuited s knowns f)
 unsuited_decides s knowns (Placed p) =
@@ -179,7 +181,7 @@ unsuited_decides s knowns (Placed p) =
     (neither (is_parted_at knowns thing) (is_parted_at knowns place.holder) (apart_decides knowns thing) (apart_decides knowns place.holder))
     (Decides-not (suits (kinds_known s.parents knowns) thing place) (suits_decide s.parents knowns thing place))
 unsuited_decides s knowns (Has h) =
-    Decides-or _ _ (never_decides h.value) (lacking_decides s knowns (number_in s.objects h.object) (number_in s.properties h.property))
+    lacking_decides s knowns (number_in s.objects h.object) (number_in s.properties h.property) h.value
 unsuited_decides s knowns (Usually u) =
     Decides-or _ _ (never_decides u.value)
     (Decides-not (can_be s (number_in s.kinds u.kind) (number_in s.properties u.property)) (property_decides s (number_in s.kinds u.kind) (number_in s.properties u.property)))

@@ -10,6 +10,7 @@ use Rattle.i7_claims.specs.Numbers.{has_name, number_in}
 use Rattle.i7_claims.specs.Statements.{NameAt}
 use Rattle.i7_claims.specs.declared.claim.Claim.{Claim}
 use Rattle.i7_claims.specs.declared.claim.Fact.{Fact}
+use Rattle.i7_claims.specs.declared.claim.Value.{Value}
 use Rattle.i7_claims.specs.declared.claim.Value.TheVariants.{Never}
 use Rattle.i7_claims.specs.declared.claim.Fact.TheVariants.{Demands, Has, Placed, RoomUnlessDoor, Usually}
 use Rattle.i7_claims.specs.declared.statements.Numbered.{Numbered}
@@ -126,18 +127,18 @@ HasProperty s kind property =
     Any (λ base. Under s.parents kind base) (kinds_in (slice_get built_in_bases property))
     ⊎ Any (λ given. (given.property ≡ property) × Under s.parents kind given.kind) s.givens
 
--- the kind of an object is known, and lacks a property
-pub record IsLacking (s : Scope) (knowns : List Known) (o property : ℕ) : Type 0 where
+-- the kind of an object is known, and lacks a property, or the value that is said is none of the property's
+pub record IsLacking (s : Scope) (knowns : List Known) (o property : ℕ) (value : Value) : Type 0 where
   pub apart : IsApart knowns o → ⊥
-  pub lacks : HasProperty s (kind_of (known_at knowns o)) property → ⊥
+  pub lacks : (value ≡ Never) ⊎ (HasProperty s (kind_of (known_at knowns o)) property → ⊥)
 
--- a fact that the kinds don't allow, where they are known: a place, a property of an object, or what is usual of a kind; or a value
--- that is none of the property's
+-- a fact that the kinds don't allow, where they are known: a place, a property of an object or a value that is none of the property's,
+-- or what is usual of a kind
 abbrev pub IsUnsuited : Scope → List Known → Fact → Type 0
 IsUnsuited s knowns (Placed p) =
     ((IsApart knowns (thing_of s.objects p) → ⊥) × (IsApart knowns (place_of s.objects p).holder → ⊥))
     × (Suits s.parents knowns (thing_of s.objects p) (place_of s.objects p) → ⊥)
-IsUnsuited s knowns (Has h) = (h.value ≡ Never) ⊎ IsLacking s knowns (number_in s.objects h.object) (number_in s.properties h.property)
+IsUnsuited s knowns (Has h) = IsLacking s knowns (number_in s.objects h.object) (number_in s.properties h.property) h.value
 IsUnsuited s knowns (Usually u) = (u.value ≡ Never) ⊎ (HasProperty s (number_in s.kinds u.kind) (number_in s.properties u.property) → ⊥)
 IsUnsuited s knowns _ = ⊥
 

@@ -38,10 +38,11 @@ abbrev pub is_never_said : Value → Bool
 is_never_said Never = true
 is_never_said _ = false
 
--- the kind of an object, where it is known, lacks a property, or the value is none of the property's
+-- where the kind of an object is known, it lacks a property, or the value is none of the property's
 abbrev pub is_lacking : Scope → List Known → Having → Bool
 is_lacking s knowns h =
-    is_never_said h.value || not (is_parted_at knowns (number_in s.objects h.object)) && not (can_be s (kind_of (known_at knowns (number_in s.objects h.object))) (number_in s.properties h.property))
+    not (is_parted_at knowns (number_in s.objects h.object))
+    && (is_never_said h.value || not (can_be s (kind_of (known_at knowns (number_in s.objects h.object))) (number_in s.properties h.property)))
 
 -- a kind lacks the property of which something is usual
 abbrev pub lacks : Scope → Usual → Bool
@@ -51,7 +52,7 @@ lacks s u = not (can_be s (number_in s.kinds u.kind) (number_in s.properties u.p
 abbrev pub is_never : Scope → Usual → Bool
 is_never s u = is_never_said u.value || lacks s u
 
--- C8: a place that the kinds don't allow, a property that they lack, where they are known, or a value that is none of the property's
+-- C8: a place that the kinds don't allow, a property that they lack, or a value that is none of the property's, where they are known
 abbrev pub is_unsuited : Scope → List Known → Fact → Bool
 is_unsuited s knowns (Placed p) =
     not (is_parted_at knowns (thing_of s.objects p) || is_parted_at knowns (place_of s.objects p).holder)

@@ -93,15 +93,15 @@ fn is_never_said(value: Value) -> bool
     matches!(value, Value::Never)
 }
 
-/// Whether the kind of an object, where it is known, lacks a property, or the value is none of the property's.
+/// Whether the kind of an object is known, and lacks a property, or the value is none of the property's.
 fn is_lacking(scope: &Scope<'_>, knowns: &[Known], having: &Having) -> bool
     ensures { result ≡ is_lacking scope.now knowns.now having.now }
 {
     let object = scope.object(having.object.as_slice());
     let property = scope.property(having.property.as_slice());
-    is_never_said(having.value)
-        || !is_parted_at(knowns, object)
-            && !can_be(scope, kind_of(known_at(knowns, object)), property)
+    !is_parted_at(knowns, object)
+        && (is_never_said(having.value)
+            || !can_be(scope, kind_of(known_at(knowns, object)), property))
 }
 
 /// Whether a kind lacks the property of which something is usual.
