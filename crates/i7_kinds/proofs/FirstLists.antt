@@ -1,12 +1,12 @@
 -- Where no kind of value is listed twice, all that sentences declare is looked at.
-use Rattle.std.proofs.Common.{◌≡◌, ℕ, ◌+◌, Bool, false, List, [], ◌∷◌, ◌++◌, refl, sym, ap, ◌∙◌, subst, inl, inr}
+use Rattle.std.proofs.Common.{◌≡◌, ℕ, ◌+◌, Bool, false, List, [], ◌∷◌, ◌++◌, map, refl, sym, ap, ◌∙◌, subst, inl, inr}
 use Rattle.std.specs.Prelude.{None, Some, flat_map, if◌then◌else◌}
 use Rattle.object_words.specs.Mentions.{mention}
 use Rattle.i7_sentences.specs.declared.name.Name.{Name}
 use Rattle.i7_sentences.specs.declared.sentence.Assertion.{Assertion}
 use Rattle.i7_sentences.specs.declared.sentence.Assertion.TheVariants as asserts
 use Rattle.i7_sentences.specs.declared.sentence.Sentence.{Sentence}
-use Rattle.i7_claims.specs.Claims.{claims_in, claims_of, declares_from, declares_in, declares_said, is_listed, known_by, values_from, with_listed}
+use Rattle.i7_claims.specs.Claims.{claimed, claims_in, claims_of, declares_from, declares_in, declares_said, is_listed, known_by, values_from, with_listed}
 use Rattle.i7_claims.specs.NameScans.{Standings, list_twice, shows_list, with_list, with_list_of}
 use Rattle.i7_claims.specs.Scans.{lowest}
 use Rattle.i7_claims.specs.Statements.{key_of}
@@ -56,7 +56,8 @@ IsFirst kinds said rest = (is_listed kinds said ≡ false) × NoneListed (with_l
 declared_first : (kinds : List (List ℕ)) (said : Assertion) (line : ℕ) (rest : List Claim) → NoneListed kinds (declares_said said line ++ rest) → IsFirst kinds said rest
 declared_first kinds (asserts.Values kind values) line rest none =
     let names = values_from (key_of kind.text) line 0 values in
-    let t = none_shown shows_list with_list_of kinds _ (names ++ rest) none in
+    let list : Claim = claimed (Values (record { kind = key_of kind.text; values = map (λ (value : Name). value.text) values })) line in
+    let t = none_shown shows_list with_list_of kinds list (names ++ rest) none in
     (t.0, past_claims names rest (mention kinds (key_of kind.text)) (names_of_values (key_of kind.text) line 0 values) t.1)
 declared_first kinds (asserts.Rulebook name) line rest none = (refl, past_claims (declares_said (asserts.Rulebook name) line) rest kinds (tt, tt) none)
 declared_first kinds (asserts.Scene name recurs) line rest none = (refl, past_claims (declares_said (asserts.Scene name recurs) line) rest kinds (tt, tt) none)

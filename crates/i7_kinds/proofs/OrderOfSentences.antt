@@ -11,7 +11,7 @@ use Rattle.i7_kinds.specs.KindsMeant.{above, by_claim, by_way, container, deepes
 use Rattle.i7_kinds.proofs.KindsDeclared.{kinds_new}
 use Rattle.i7_kinds.proofs.KindsOne.{kinds_meant, one_meant}
 use Rattle.i7_kinds.proofs.ObjectsNamed.{accepted}
-use Rattle.i7_kinds.proofs.SameClaims.{claimed_in_both}
+use Rattle.i7_kinds.proofs.SameClaims.{AreOnce, claimed_in_both}
 use Rattle.i7_kinds.proofs.SameStandings.{SameClaimed}
 
 -- ---- what rests on which claims there are
@@ -55,8 +55,8 @@ pub order_is_nothing : OrderIsNothingToKinds
 order_is_nothing these those tale other same means means_too i j object twin at at_too named =
     let found = accepted these tale means in
     let found_too = accepted those other means_too in
-    let once = (found.once, found.listed) in
-    let once_too = (found_too.once, found_too.listed) in
+    let once : AreOnce (claims_of these) = (found.once, found.listed) in
+    let once_too : AreOnce (claims_of those) = (found_too.once, found_too.listed) in
     let to = claimed_in_both these those same once once_too in
     let from = claimed_in_both those these (the_other_way these those same) once_too once in
     let a = kinds_meant these tale i object means at in

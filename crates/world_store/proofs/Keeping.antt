@@ -20,6 +20,7 @@ use Rattle.object_tree.proofs.Moves.{moved, tree_taken}
 use Rattle.object_tree.specs.Places.{holder_of, place_of}
 use Rattle.play_meaning.specs.Settings.{room_kind}
 use Rattle.play_meaning.specs.Turns.{most_turns}
+use Rattle.play_meaning.specs.Values.{is_value}
 use Rattle.play_meaning.specs.Worlds.{World, next_turn, not_begun, set_flag, set_number, set_place, set_scene, set_value, set_variable}
 use Rattle.play_meaning.specs.declared.scene.SceneNow.{SceneNow}
 use Rattle.story_format.specs.Facts.{start_of}
@@ -32,7 +33,9 @@ use Rattle.story_format.proofs.Beginnings.{holders_there, player_in_room, storie
 use Rattle.story_format.proofs.RoomLemmas.{story_starts}
 use Rattle.world_store.specs.Rows.{AreColumns}
 use Rattle.world_store.specs.StartWorlds.{start_world}
+use Rattle.world_store.specs.StorySettings.{setting_of}
 use Rattle.world_store.specs.StoryWorlds.{IsKept}
+use Rattle.world_store.proofs.Choices.{choices_at_start, choices_left, choices_with}
 
 -- ---- the start
 
@@ -108,6 +111,7 @@ kept_at_start t story = record {
   flags = columns_made (start_flags t) (length t.world.flags) (length t.objects) (λ property. length-map t.objects (starts_true property));
   numbers = columns_made (start_numbers t) (length t.world.numbers) (length t.objects) (λ property. length-map t.objects (start_number t.world property));
   values = columns_made (start_values t) (length t.values.kinds) (length t.objects) (λ kind. length_values t kind t.objects t.values.objects);
+  choices = choices_at_start t story;
   variables = length-map t.world.variables start_variable;
   scenes = length_made (length t.rules.scenes);
   here = start_of t;
@@ -156,6 +160,7 @@ flag_kept t w property o value k = record {
   flags = cells_kept w.flags (length t.world.flags) (length t.objects) property o value k.flags;
   numbers = k.numbers;
   values = k.values;
+  choices = choices_left t w (set_flag property o value w) refl k.choices;
   variables = k.variables;
   scenes = k.scenes;
   here = k.here;
@@ -174,6 +179,7 @@ number_kept t w property o value k = record {
   flags = k.flags;
   numbers = cells_kept w.numbers (length t.world.numbers) (length t.objects) property o value k.numbers;
   values = k.values;
+  choices = choices_left t w (set_number property o value w) refl k.choices;
   variables = k.variables;
   scenes = k.scenes;
   here = k.here;
@@ -184,14 +190,15 @@ number_kept t w property o value k = record {
   holders = k.holders;
 }
 
-pub value_kept : (t : Tables) (w : World) (kind o value : ℕ) → IsKept t w → IsKept t (set_value kind o value w)
+pub value_kept : (t : Tables) (w : World) (kind o value : ℕ) → is_value (setting_of t) kind value ≡ true → IsKept t w → IsKept t (set_value kind o value w)
 unfolding set_value
-value_kept t w kind o value k = record {
+value_kept t w kind o value fits k = record {
   story = k.story;
   objects = k.objects;
   flags = k.flags;
   numbers = k.numbers;
   values = cells_kept w.values (length t.values.kinds) (length t.objects) kind o value k.values;
+  choices = choices_with t w kind o value k fits;
   variables = k.variables;
   scenes = k.scenes;
   here = k.here;
@@ -209,6 +216,7 @@ variable_kept t w variable value k = record {
   flags = k.flags;
   numbers = k.numbers;
   values = k.values;
+  choices = choices_left t w (set_variable variable value w) refl k.choices;
   variables = length-set w.variables variable value ∙ k.variables;
   scenes = k.scenes;
   here = k.here;
@@ -226,6 +234,7 @@ scene_kept t w scene now k = record {
   flags = k.flags;
   numbers = k.numbers;
   values = k.values;
+  choices = choices_left t w (set_scene scene now w) refl k.choices;
   variables = k.variables;
   scenes = length-set w.scenes scene now ∙ k.scenes;
   here = k.here;
@@ -243,6 +252,7 @@ turn_kept t w fewer k = record {
   flags = k.flags;
   numbers = k.numbers;
   values = k.values;
+  choices = choices_left t w (next_turn w) refl k.choices;
   variables = k.variables;
   scenes = k.scenes;
   here = k.here;
@@ -263,6 +273,7 @@ ending_kept t w text k = record {
   flags = k.flags;
   numbers = k.numbers;
   values = k.values;
+  choices = choices_left t w (record w { ended = text }) refl k.choices;
   variables = k.variables;
   scenes = k.scenes;
   here = k.here;
@@ -309,6 +320,7 @@ moved_kept t w o place here k room player tree within =
       flags = k.flags;
       numbers = k.numbers;
       values = k.values;
+      choices = choices_left t w (set_place o place w) refl k.choices;
       variables = k.variables;
       scenes = k.scenes;
       here = here;

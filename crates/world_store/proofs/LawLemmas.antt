@@ -65,7 +65,7 @@ granted_there parents [] kind property has = absurd cc
 granted_there parents (g ∷ granted) kind zero has = omega arith
 granted_there parents (g ∷ granted) kind (suc property) has = omega (arith, granted_there parents granted kind property has)
 
-had_there : (parents : List (Option ℕ)) (granted : List Granted) (property : ℕ) (entries : List Entry) (o : ℕ) → has_in parents granted property (slice_get entries o) ≡ true
+pub had_there : (parents : List (Option ℕ)) (granted : List Granted) (property : ℕ) (entries : List Entry) (o : ℕ) → has_in parents granted property (slice_get entries o) ≡ true
     → (o < length entries) × (property < length granted)
 had_there parents granted property [] o has = absurd cc
 had_there parents granted property (e ∷ entries) zero has = (omega arith, granted_there parents granted e.kind property has)

@@ -1,4 +1,5 @@
 pub mod Ending
+pub mod Choices
 pub mod Keeping
 pub mod LawLemmas
 pub mod Lights

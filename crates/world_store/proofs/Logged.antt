@@ -1,12 +1,14 @@
 -- A change that was written in the log and made.
-use Rattle.std.proofs.Common.{◌≡◌, ◌∙◌, sym, ap, refl, subst, ℕ, ◌+◌, Bool, ℤ, List, [], ◌∷◌, ◌++◌}
+use Rattle.std.proofs.Common.{◌≡◌, ◌∙◌, sym, ap, refl, subst, ℕ, ◌+◌, Bool, true, ℤ, List, [], ◌∷◌, ◌++◌}
 use Rattle.std.specs.Prelude.{◌<◌, Option, Some, slice_index_or, slice_set}
 use Rattle.play_meaning.specs.Turns.{most_turns}
+use Rattle.play_meaning.specs.Values.{is_value}
 use Rattle.play_meaning.specs.Worlds.{World, end_with, is_true_of, next_turn, number_of, place_of, scene_of, set_flag, set_number, set_place, set_scene, set_value, set_variable, value_of, variable_of}
 use Rattle.play_meaning.specs.declared.scene.SceneNow.{SceneNow}
 use Rattle.story_format.specs.declared.tables.Tables.{Tables}
 use Rattle.world_meaning.specs.declared.place.Place.{Place}
 use Rattle.world_store.specs.Pasts.{past_of, story_world, undone}
+use Rattle.world_store.specs.StorySettings.{setting_of}
 use Rattle.world_store.specs.StoryWorlds.{AreKept, IsKept, IsStoryWorld, StoryWorld}
 use Rattle.world_store.specs.declared.remembering.Was.{Was}
 use Rattle.world_store.specs.declared.remembering.Was.TheVariants.{Flag, Number, Valued, Variable, Scene, Placed, Turns, Ended}
@@ -59,14 +61,15 @@ module _ (t : Tables) (log new : List Was) (w : World) (s : StoryWorld) (same : 
       (ap (λ n. set_number property o n v) (read ∙ ap (λ x. number_of x property o) (sym world_same)) ∙ ap (set_number property o (number_of w property o)) made
       ∙ number_back w property o value)
 
-  pub value_logged : (kind o value was : ℕ) (values : List (List ℕ)) → was ≡ value_of s.world kind o
+  pub value_logged : (kind o value was : ℕ) (values : List (List ℕ)) → is_value (setting_of s.tables) kind value ≡ true → was ≡ value_of s.world kind o
       → values ≡ slice_set w.values kind (slice_set (slice_index_or w.values kind []) o value) → new ≡ log ++ Valued kind o was ∷ []
       → IsLogged t new (record w { values = values }) s (set_value kind o value s.world)
   unfolding set_value
-  value_logged kind o value was values read set written =
+  value_logged kind o value was values fits read set written =
       let v : World = record w { values = values } in
+      let its : is_value (setting_of t) kind value ≡ true = subst (λ (u : Tables). is_value (setting_of u) kind value ≡ true) (sym (ap (λ (x : StoryWorld). x.tables) same)) fits in
       let made : v ≡ set_value kind o value w = ap (λ vs. record w { values = vs }) set in
-      logged t log new (Valued kind o was) w v s (set_value kind o value s.world) same is (subst (IsKept t) (sym made) (value_kept t w kind o value is.now))
+      logged t log new (Valued kind o was) w v s (set_value kind o value s.world) same is (subst (IsKept t) (sym made) (value_kept t w kind o value its is.now))
       (made ∙ ap (set_value kind o value) world_same) written
       (ap (λ n. set_value kind o n v) (read ∙ ap (λ x. value_of x kind o) (sym world_same)) ∙ ap (set_value kind o (value_of w kind o)) made
       ∙ value_back w kind o value)

@@ -4,9 +4,9 @@ use Rattle.object_tree.specs.Places.{holder_of}
 use Rattle.play_meaning.specs.Changes.{behind, remembered}
 use Rattle.play_meaning.specs.Settings.{room_kind}
 use Rattle.play_meaning.specs.Turns.{most_turns}
-use Rattle.play_meaning.specs.Worlds.{World, place_of}
+use Rattle.play_meaning.specs.Worlds.{World, place_of, value_of}
 use Rattle.play_meaning.specs.declared.fault.WorldFault.{WorldFault}
-use Rattle.story_format.specs.InPlay.{is_of}
+use Rattle.story_format.specs.InPlay.{has_value, is_of, value_names}
 use Rattle.story_format.specs.Spells.{IsStory}
 use Rattle.story_format.specs.declared.tables.Tables.{Tables}
 use Rattle.world_meaning.specs.Chains.{IsTree}
@@ -31,15 +31,21 @@ changed result made s = record s { world = behind result made s.world; past = re
 abbrev pub reverted : ℕ → StoryWorld → StoryWorld
 reverted mark s = record s { world = slice_index_or (worlds s) mark s.world; past = take mark s.past }
 
+-- each object has one of the values of each kind of value that its kind has
+abbrev pub HasChoices : Tables → World → Type 0
+HasChoices t w = (kind o : ℕ) → has_value t o kind ≡ true → value_of w kind o < length (value_names t kind)
+
 -- a world of a story: it says of each object where it is, whether each either-or property is true of it, its number in each
--- number property, and its value of each kind of value; of each variable and each scene where it stands; the player is directly in a room; turns are counted no further
--- than numbers go; and objects hold each other, no chain of holders being endless
+-- number property, and its value of each kind of value, one of those that this has; of each variable and each scene where it stands; the
+-- player is directly in a room; turns are counted no further than numbers go; and objects hold each other, no chain of holders being
+-- endless
 pub record IsKept (t : Tables) (w : World) : Type 0 where
   pub story : IsStory t
   pub objects : length w.places ≡ length t.objects
   pub flags : AreColumns w.flags (length t.world.flags) (length t.objects)
   pub numbers : AreColumns w.numbers (length t.world.numbers) (length t.objects)
   pub values : AreColumns w.values (length t.values.kinds) (length t.objects)
+  pub choices : HasChoices t w
   pub variables : length w.variables ≡ length t.world.variables
   pub scenes : length w.scenes ≡ length t.rules.scenes
   pub here : ℕ
