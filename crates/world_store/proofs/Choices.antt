@@ -1,7 +1,7 @@
 -- Each object has one of the values of each kind of value that its kind has: as its story begins, and behind a change that gives it one.
 use Rattle.std.proofs.Common.{◌≡◌, ◌∙◌, ◌≢◌, ◌⊎◌, sym, ap, refl, subst, ℕ, zero, suc, ◌+◌, ◌<◌, ◌&&◌, Bool, true, false, cond, List, [], ◌∷◌, length, map, take, inl, inr, arith, eqb-true}
-use Rattle.std.specs.Prelude.{◌==◌, Option, Some, None, nat_lt, range_with_len, slice_get, slice_index_or, if◌then◌else◌}
-use Rattle.std.specs.List.{count_by, filter}
+use Rattle.std.specs.Prelude.{◌==◌, Option, Some, None, nat_lt, slice_get, slice_index_or, if◌then◌else◌}
+use Rattle.std.specs.List.{count_by, filter, range_with_len}
 use Rattle.std.proofs.Math.Dec.{eqb-suc-zero}
 use Rattle.std.proofs.lemmas.Bool.{and_from, and_parts, cases_Bool, ltb-true}
 use Rattle.std.proofs.lemmas.Bool.Decides.{Decides-eqb}
@@ -94,7 +94,7 @@ start_below t q (e ∷ es) (own ∷ others) (suc o) have is =
 
 if_some : (n : ℕ) (a b : Bool) → 0 < n → (if n == 0 then a else b) ≡ true → b ≡ true
 if_some zero a b some h = absurd (omega (arith, some))
-if_some (suc n) a b some h = let no : (suc n == 0) ≡ false = eqb-suc-zero n in rw no at h
+if_some (suc n) a b some h = let some_more : (suc n == 0) ≡ false = eqb-suc-zero n in rw some_more at h
 
 values_right : (t : Tables) → IsStory t → 0 < length t.values.kinds → have_values t.world.kinds t.values.kinds t.objects t.values.objects ≡ true
 unfolding are_right are_right_values
@@ -115,9 +115,10 @@ unfolding start_world value_of
 choices_at_start t story q o is =
     let there = had_there t.world.kinds (grants_in t.values) q t.objects o is in
     let many : length (grants_in t.values) ≡ length t.values.kinds = length-map t.values.kinds (λ v. v.given) in
+    let at : 0 + q ≡ q = omega arith in
     let most = count_at (slice_get t.values.kinds q) in
     let below = start_below t q t.objects t.values.objects o (values_right t story (omega (arith, there.1, many))) is in
-    let column : slice_index_or (map (start_values t) (range_with_len 0 (length t.values.kinds))) q [] ≡ start_values t q = column_at (start_values t) 0 (length t.values.kinds) q (omega (arith, there.1, many)) in
+    let column : slice_index_or (map (start_values t) (range_with_len 0 (length t.values.kinds))) q [] ≡ start_values t q = column_at (start_values t) 0 (length t.values.kinds) q (omega (arith, there.1, many)) ∙ ap (start_values t) at in
     subst (λ (n : ℕ). value_of (start_world t) q o < n) (sym (named_so t.strings (slice_get t.values.kinds q)))
     (subst (λ (values : List ℕ). slice_index_or values o 0 < most) (sym column) below)
 
@@ -132,8 +133,8 @@ choices_left t w v same choices q o is =
 apart : (a b c d : ℕ) → ((a == b) && (c == d)) ≡ false → (a ≢ b) ⊎ (c ≢ d)
 apart a b c d h =
     elim (cases_Bool (a == b)) [
-      | inl yes ↦ inr (λ e. let both : ((a == b) && (c == d)) ≡ true = and_from (a == b) (c == d) yes ((Decides-eqb c d).1 e) in absurd cc)
-      | inr no ↦ inl (λ e. let yes : (a == b) ≡ true = (Decides-eqb a b).1 e in absurd cc)
+      | inl same ↦ inr (λ e. let both : ((a == b) && (c == d)) ≡ true = and_from (a == b) (c == d) same ((Decides-eqb c d).1 e) in absurd cc)
+      | inr other ↦ inl (λ e. let same : (a == b) ≡ true = (Decides-eqb a b).1 e in absurd cc)
     ]
 
 -- a value that the kind of value has is given

@@ -66,7 +66,8 @@ pub fn the_dark_hides()
 {}
 
 /// What is known of any world that is handed in: it says of each object where it is, whether each property is true of it,
-/// its numbers and its values, and the player is directly in a room; and so did the worlds before it.
+/// its numbers and its values, each value being one of those that the kind of value has, and the player is directly in a room; and so did
+/// the worlds before it.
 pub fn worlds_are_whole(world: &World)
     ensures { AreKept world.now.tables (worlds world.now) }
 {
