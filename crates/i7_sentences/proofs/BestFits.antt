@@ -32,10 +32,10 @@ up_to P count below here n low =
 abbrev IsLeast : (ℕ → Option Found) → List (List Token) → ℕ → Type 0
 IsLeast at letters n = (found : Found) → at n ≡ Some found → are_shorter found.letters letters ≡ false
 
-record IsBestAt (at : ℕ → Option Found) (count : ℕ) (best : Found) : Type 0 where
-  n : ℕ
-  is : at n ≡ Some best
-  least : (m : ℕ) → m < count → IsLeast at best.letters m
+pub record IsBestAt (at : ℕ → Option Found) (count : ℕ) (best : Found) : Type 0 where
+  pub n : ℕ
+  pub is : at n ≡ Some best
+  pub least : (m : ℕ) → m < count → IsLeast at best.letters m
 
 abbrev pub IsBest : (ℕ → Option Found) → ℕ → Option Found → Type 0
 IsBest at count None = (n : ℕ) → n < count → at n ≡ None
@@ -108,14 +108,14 @@ fits_onto (Letter own ∷ pieces) class front back others fits is = record {
   behind = fits_onto pieces class fits.rest back fits.others fits.behind is;
 }
 
-record EndsSo (pieces : List Piece) (class : Class) (tokens : List Token) (letters : List (List Token)) : Type 0 where
-  front : List Token
-  back : List Token
-  others : List (List Token)
-  parts : tokens ≡ front ++ back
-  is_of_class : IsOf class back
-  keeps : letters ≡ others ++ back ∷ []
-  fits : Fits pieces front others
+pub record EndsSo (pieces : List Piece) (class : Class) (tokens : List Token) (letters : List (List Token)) : Type 0 where
+  pub front : List Token
+  pub back : List Token
+  pub others : List (List Token)
+  pub parts : tokens ≡ front ++ back
+  pub is_of_class : IsOf class back
+  pub keeps : letters ≡ others ++ back ∷ []
+  pub fits : Fits pieces front others
 
 pub fits_off : (pieces : List Piece) (class : Class) (tokens : List Token) (letters : List (List Token)) → Fits (pieces ++ Letter class ∷ []) tokens letters → EndsSo pieces class tokens letters
 fits_off [] class tokens letters fits = record {
