@@ -29,7 +29,7 @@ up_to P count below here n low =
       | false ↦ λ isnt. below n (grind (arith, common_steps, isnt, low))
     ] refl
 
-abbrev IsLeast : (ℕ → Option Found) → List (List Token) → ℕ → Type 0
+abbrev pub IsLeast : (ℕ → Option Found) → List (List Token) → ℕ → Type 0
 IsLeast at letters n = (found : Found) → at n ≡ Some found → are_shorter found.letters letters ≡ false
 
 pub record IsBestAt (at : ℕ → Option Found) (count : ℕ) (best : Found) : Type 0 where
