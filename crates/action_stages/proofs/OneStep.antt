@@ -1,5 +1,5 @@
 -- One step of a body over a loaded story's world.
-use Rattle.std.proofs.Common.{◌≡◌, ◌∙◌, ap, sym, refl, subst, ℕ, zero, suc, ◌≤◌, inl, inr, List, [], ◌∷◌, ◌++◌, length, arith}
+use Rattle.std.proofs.Common.{◌≡◌, ◌∙◌, ap, sym, refl, subst, ℕ, zero, suc, ◌<◌, ◌≤◌, true, inl, inr, List, [], ◌∷◌, ◌++◌, length, arith}
 use Rattle.std.specs.Prelude.{Result, Ok, Err, OnErr, OnOk, Some, slice_get}
 use Rattle.std.proofs.lemmas.Option.{same_Some}
 use Rattle.play_meaning.specs.Codes.{Codes, code_of, frame_of, test_of}
@@ -8,13 +8,14 @@ use Rattle.play_meaning.specs.Grounds.{Fixed, telling_by}
 use Rattle.play_meaning.specs.Machines.{Frame, State, step}
 use Rattle.play_meaning.specs.Progress.{most_work}
 use Rattle.play_meaning.specs.Settings.{room_kind}
-use Rattle.play_meaning.specs.Worlds.{World}
+use Rattle.play_meaning.specs.Worlds.{World, value_of}
 use Rattle.play_meaning.specs.declared.action.ActionNow.{ActionNow}
 use Rattle.story_code.specs.Runs.{AreDescribedBy, MayDo, Standing, code_at, codes_of, state_in}
 use Rattle.story_code.specs.Soundness.{Judged}
 use Rattle.story_code.specs.Steps.{LeadsBack, StepsSo as PlainlySo, body_frame, stepped}
 use Rattle.story_code.specs.declared.step.Step.{Step}
 use Rattle.story_code.specs.declared.step.Step.TheVariants.{Done, Failure, Follow, GoesOn, NoDecision, Success, Try}
+use Rattle.story_format.specs.InPlay.{has_value, value_names}
 use Rattle.story_format.specs.declared.tables.Tables.{Tables}
 use Rattle.world_meaning.specs.declared.session.Abandon.{Abandon}
 use Rattle.world_store.specs.StorySettings.{fixed_of, setting_of}
@@ -105,6 +106,10 @@ kept_again t x w v kept other fixed long =
         many = long.values ∙ kept.values.many;
         high = λ i below. other.values.high i (omega (arith, below, long.values, kept.values.many, other.values.many)) ∙ count;
       };
+      choices = λ q o is.
+          let has : has_value x o q ≡ true = ap (λ (f : Fixed). f.setting.has_value o q) fixed ∙ is in
+          let many : length (value_names x q) ≡ length (value_names t q) = ap (λ (f : Fixed). length (f.setting.value_names q)) fixed in
+          subst (λ (n : ℕ). value_of v q o < n) many (other.choices q o has);
       variables = long.variables ∙ kept.variables;
       scenes = long.scenes ∙ kept.scenes;
       here = other.here;
