@@ -1,12 +1,14 @@
 -- The bodies of a story's rules as code runs them: step by step, or as what is owed behind a standard rule.
-use Rattle.std.specs.Prelude.{◌≡◌, ◌≢◌, ◌≤◌, ℕ, List, [], map, MatchResult, Option, None, Some, Result, Ok, Err, slice_get}
+use Rattle.std.specs.Prelude.{◌≡◌, ◌≢◌, ◌≤◌, ◌-◌, ℕ, List, [], map, MatchResult, Option, None, Some, Result, Ok, Err, slice_get}
 use Rattle.play_meaning.specs.Attempts.{Attempt, next}
 use Rattle.play_meaning.specs.CodedStories.{Coded, CodedRule, CodedStory, RuleBody, Standard, telling_by_codes}
-use Rattle.play_meaning.specs.Codes.{code_of, frame_of, start_at, test_of}
+use Rattle.play_meaning.specs.Codes.{body_done, code_of, frame_of, start_at, test_of}
 use Rattle.play_meaning.specs.Doing.{Inner}
 use Rattle.play_meaning.specs.Effects.{tried_if}
 use Rattle.play_meaning.specs.Machines.{Abandons, Frame, Goes, Leaves, State, Step as Coming, step}
 use Rattle.play_meaning.specs.Progress.{Done, Progress, most_work}
+use Rattle.play_meaning.specs.Scripts.{rule_body}
+use Rattle.play_meaning.specs.StandardRules.{standard_rules}
 use Rattle.play_meaning.specs.declared.action.ActionNow.{ActionNow}
 use Rattle.play_meaning.specs.declared.outcome.Flow.{Flow}
 use Rattle.story_code.specs.Runs.{AreSoundTogether, IsBody, IsDescription, IsTestAt, MayDo, Standing, code_told}
@@ -15,6 +17,7 @@ use Rattle.story_code.specs.Steps.{stepped}
 use Rattle.story_code.specs.declared.step.Step.{Step}
 use Rattle.world_meaning.specs.declared.session.Abandon.{Abandon}
 use Rattle.world_meaning.specs.declared.session.Abandon.TheVariants.{Memory}
+use Rattle.world_store.specs.StoryWorlds.{StoryWorld}
 use Rattle.action_stages.specs.Answering.{ends_so}
 use Rattle.action_stages.specs.Measures.{outcome_from, steps_left}
 use Rattle.action_stages.specs.declared.playing.Does.{Does}
@@ -53,6 +56,14 @@ frame_in k now inner = frame_of k.codes (telling_by_codes k) inner (test_of k.co
 abbrev pub at : Standing → Progress → State
 at s p = record { place = s.place; operands = s.operands; loops = s.loops; progress = p }
 
+-- the run of the code of this number, from its beginning
+abbrev pub code_done : CodedStory → Inner → ℕ → ActionNow → Progress → Attempt Done
+code_done k inner code now p = body_done k.codes (telling_by_codes k) inner code now p
+
+-- play in a world, with what is said and the work that is done so far
+abbrev pub playing_in : StoryWorld → List ℕ → ℕ → Progress
+playing_in world text work = record { world = world.world; text = text; work = work }
+
 -- one instruction of the code in which a run stands
 abbrev pub step_at : CodedStory → ActionNow → Inner → Standing → Progress → Coming
 step_at k now inner s p = step (frame_in k now inner) (code_of k.codes s.code) (at s p)
@@ -86,3 +97,7 @@ left_at k s p = steps_left (code_of k.codes s.code) (at s p)
 -- what the rest of a standard rule's body comes to behind its changes and its text
 abbrev pub rest_of : Inner → Owed → Progress → Attempt Done
 rest_of inner owed p = next (tried_if inner owed.tries p) (ends_so owed.ends)
+
+-- the body of the standard rule of this number, counted from 1
+abbrev pub standard_body : CodedStory → Inner → ℕ → ActionNow → Progress → Attempt Done
+standard_body k inner rule now p = rule_body (telling_by_codes k) inner now p (slice_get standard_rules (rule - 1))

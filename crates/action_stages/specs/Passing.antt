@@ -1,5 +1,5 @@
 -- Which rules of a book a walk passes over: those that aren't about what is there.
-use Rattle.std.specs.Prelude.{◌≡◌, ℕ, ◌≤◌, ◌<◌, false, Some, slice_get}
+use Rattle.std.specs.Prelude.{◌≡◌, ℕ, ◌≤◌, ◌<◌, false, MatchOption, Option, Some, slice_get}
 use Rattle.play_meaning.specs.Games.{Game}
 use Rattle.play_meaning.specs.Worlds.{World}
 use Rattle.play_meaning.specs.declared.action.ActionNow.{ActionNow}
@@ -17,3 +17,7 @@ pub record IsNext (g : Game) (book : ℕ) (now : ActionNow) (w : World) (from pl
   pub behind : from ≤ place
   pub there : slice_get (g.books book) place ≡ Some rule
   pub others : NoneIsAbout g book now w from place
+
+-- what is found from a place on: the next rule and its place, or nothing where none is about what is there
+abbrev pub FindsNext : Game → (book : ℕ) → ActionNow → World → (from : ℕ) → Option (ℕ × ℕ) → Type 0
+FindsNext g book now w from found = MatchOption found (NoneBehindIsAbout g book now w from) (λ next. IsNext g book now w from next.0 next.1)

@@ -1,15 +1,11 @@
 //! Rules are asked, rulebooks consulted and actions done: a cycle over the levels that are left below, the same for whatever
 //! story is in play.
-ghost use Rattle.std.specs.Prelude.{◌≡◌, ◌≤◌, ◌-◌, Ok, None, Some, slice_get};
+ghost use Rattle.std.specs.Prelude.{◌≡◌, ◌≤◌, ◌-◌, Ok, None, Some};
 ghost use Rattle.play_meaning.specs.Acting.{act, carrying, report};
-ghost use Rattle.play_meaning.specs.CodedStories.{telling_by_codes};
-ghost use Rattle.play_meaning.specs.Codes.{body_done};
 ghost use Rattle.play_meaning.specs.Consulting.{ask, consult};
-ghost use Rattle.play_meaning.specs.Scripts.{rule_body};
-ghost use Rattle.play_meaning.specs.StandardRules.{standard_rules};
 ghost use Rattle.story_code.specs.Runs.{IsBody, MayDo};
 ghost use Rattle.action_stages.specs.Answering.{Answers, asked, done};
-ghost use Rattle.action_stages.specs.Bodies.{AreCodesIn, CameTo, at, step_at};
+ghost use Rattle.action_stages.specs.Bodies.{AreCodesIn, CameTo, at, code_done, standard_body, step_at};
 ghost use Rattle.action_stages.specs.Parts.{part_of};
 ghost use Rattle.action_stages.specs.Performing.{below};
 ghost use Rattle.action_stages.specs.Returning.{IsThere};
@@ -130,7 +126,7 @@ fn code_in<P: Playing>(
     ensures same { P.tables play.new ≡ P.tables play.old }
     ensures kept { P.loaded play.new ≡ P.loaded play.old }
     ensures answer { Answers result (done (P.progress play.new))
-        (body_done (coded_story (P.tables play.old)).codes (telling_by_codes (coded_story (P.tables play.old))) (below (P.tables play.old) depth) code now.now (P.progress play.old)) }
+        (code_done (coded_story (P.tables play.old)) (below (P.tables play.old) depth) code now.now (P.progress play.old)) }
 {
     play.is_within();
     runs_begin_standing();
@@ -162,7 +158,7 @@ fn standard_in<P: Playing>(
     ensures same { P.tables play.new ≡ P.tables play.old }
     ensures kept { P.loaded play.new ≡ P.loaded play.old }
     ensures answer { Answers result (done (P.progress play.new))
-        (rule_body (telling_by_codes (coded_story (P.tables play.old))) (below (P.tables play.old) depth) now.now (P.progress play.old) (slice_get standard_rules (rule - 1))) }
+        (standard_body (coded_story (P.tables play.old)) (below (P.tables play.old) depth) rule now.now (P.progress play.old)) }
 {
     let owed = play.standard(alloc, rule, now)?;
     if let Some(action) = &owed.tries {

@@ -1,7 +1,7 @@
 //! Which rule of a book is asked next: those that can't be about what is there are passed over.
-ghost use Rattle.std.specs.Prelude.{◌≡◌, ◌+◌, ◌<◌, ◌^◌, IfSome, MatchOption};
+ghost use Rattle.std.specs.Prelude.{◌≡◌, ◌+◌, ◌<◌, ◌^◌, IfSome};
 ghost use Rattle.play_meaning.specs.Worlds.{location_of};
-ghost use Rattle.action_stages.specs.Passing.{IsNext, NoneBehindIsAbout};
+ghost use Rattle.action_stages.specs.Passing.{FindsNext};
 ghost use Rattle.world_store.specs.StoryPlay.{game_in_play};
 
 use play_meaning::{ActionNow, rules_passed_over_are_false};
@@ -25,8 +25,7 @@ pub fn next_rule(
     from: usize,
 ) -> Option<(usize, u16)>
     requires { index.now ≡ world.now.tables }
-    ensures next { MatchOption result (NoneBehindIsAbout (game_in_play world.now.tables) book now.now world.now.world from)
-        (λ next. IsNext (game_in_play world.now.tables) book now.now world.now.world from next.0 next.1) }
+    ensures next { FindsNext (game_in_play world.now.tables) book now.now world.now.world from result }
     ensures few { IfSome result (λ next. next.0 + 1 < 2 ^ 64) }
 {
     rules_passed_over_are_false();

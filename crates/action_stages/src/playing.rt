@@ -1,14 +1,11 @@
 //! What play asks of a story and of the world that it has come to.
-ghost use Rattle.std.specs.Prelude.{◌≡◌, ◌≤◌, ◌<◌, ◌+◌, ◌-◌, ◌^◌, ℕ, IfOk, IfSome, MatchOption, OnOk, OnErr, Err, Some, true, slice_get};
+ghost use Rattle.std.specs.Prelude.{◌≡◌, ◌≤◌, ◌<◌, ◌+◌, ◌-◌, ◌^◌, ℕ, IfOk, IfSome, OnOk, OnErr, Err, Some, true, slice_get};
 ghost use Rattle.play_meaning.specs.Acting.{has_noun};
-ghost use Rattle.play_meaning.specs.CodedStories.{telling_by_codes};
 ghost use Rattle.play_meaning.specs.Consulting.{applies};
 ghost use Rattle.play_meaning.specs.Doing.{Inner};
 ghost use Rattle.play_meaning.specs.Progress.{Progress, most_work, say, spend};
 ghost use Rattle.play_meaning.specs.Saying.{name_in};
-ghost use Rattle.play_meaning.specs.Scripts.{rule_body};
 ghost use Rattle.play_meaning.specs.Seeing.{has_light, is_touchable, is_visible};
-ghost use Rattle.play_meaning.specs.StandardRules.{standard_rules};
 ghost use Rattle.play_meaning.specs.Truth.{of_some};
 ghost use Rattle.play_meaning.specs.declared.naming.Naming.TheVariants.{Definite};
 ghost use Rattle.world_meaning.specs.declared.session.Abandon.TheVariants.{Memory};
@@ -19,8 +16,8 @@ ghost use Rattle.world_store.specs.StorySettings.{setting_of};
 ghost use Rattle.world_store.specs.StoryPlay.{coded_story, game_in_play};
 ghost use Rattle.action_stages.specs.Answering.{Answers, Comes};
 ghost use Rattle.action_stages.specs.declared.playing.Does.TheVariants.{Standard};
-ghost use Rattle.action_stages.specs.Bodies.{AreCodesIn, StepsSo, body_in, does_told, rest_of};
-ghost use Rattle.action_stages.specs.Passing.{IsNext, NoneBehindIsAbout};
+ghost use Rattle.action_stages.specs.Bodies.{AreCodesIn, StepsSo, body_in, does_told, rest_of, standard_body};
+ghost use Rattle.action_stages.specs.Passing.{FindsNext};
 
 use play_meaning::{ActNo, ActionNow, Flow};
 use std::alloc::Global;
@@ -63,8 +60,7 @@ pub trait Playing {
     /// The first rule of a rulebook that may be about what is there, at a place or behind it, and its place.
     fn next_rule(&self, book: u16, now: &ActionNow, from: usize) -> Option<(usize, u16)>
         requires whole { tables self.now ≡ (loaded self.now).story }
-        ensures next { MatchOption result (NoneBehindIsAbout (game_in_play (tables self.now)) book now.now (progress self.now).world from)
-            (λ next. IsNext (game_in_play (tables self.now)) book now.now (progress self.now).world from next.0 next.1) }
+        ensures next { FindsNext (game_in_play (tables self.now)) book now.now (progress self.now).world from result }
         ensures few { IfSome result (λ next. next.0 + 1 < 2 ^ 64) };
 
     /// Counts that a rule is asked.
@@ -134,7 +130,7 @@ pub trait Playing {
         ensures same { tables self.new ≡ tables self.old }
         ensures kept { loaded self.new ≡ loaded self.old }
         ensures effect { IfOk result (λ owed. (inner : Inner)
-            → rule_body (telling_by_codes (coded_story (tables self.old))) inner now.now (progress self.old) (slice_get standard_rules (rule - 1)) ≡ rest_of inner owed (progress self.new)) }
+            → standard_body (coded_story (tables self.old)) inner rule now.now (progress self.old) ≡ rest_of inner owed (progress self.new)) }
         ensures refused { OnErr result (result ≡ Err Memory) };
 
     /// Does one instruction of a body; what it tries or follows is left to the caller.

@@ -3,7 +3,7 @@ ghost use Rattle.std.specs.Prelude.{◌≡◌, ◌≤◌, IfOk, OnErr, OnOk, tru
 ghost use Rattle.play_meaning.specs.Progress.{most_work};
 ghost use Rattle.story_code.specs.Runs.{MayDo};
 ghost use Rattle.story_code.specs.Steps.{leads_on};
-ghost use Rattle.action_stages.specs.Bodies.{AreCodesIn, StepsSo};
+ghost use Rattle.action_stages.specs.Bodies.{AreCodesIn, StepsSo, playing_in};
 ghost use Rattle.action_stages.specs.Returning.{ComesBehind};
 ghost use Rattle.world_store.specs.StoryPlay.{coded_story};
 
@@ -31,8 +31,8 @@ pub fn step_kept(
     requires within { state.old.work ≤ most_work }
     ensures tables { world.new.tables ≡ world.old.tables }
     ensures step { StepsSo (coded_story world.old.tables) now.now
-        state.old (record { world = world.old.world; text = text.old.items; work = state.old.work })
-        result state.new (record { world = world.new.world; text = text.new.items; work = state.new.work }) }
+        state.old (playing_in world.old text.old.items state.old.work)
+        result state.new (playing_in world.new text.new.items state.new.work) }
     ensures left { OnErr result (world.new.world ≡ world.old.world) }
     ensures behind { ComesBehind world.old world.new }
     ensures stands { IfOk result (λ came. leads_on came ≡ true → MayDo codes.now state.new) }

@@ -12,6 +12,7 @@ use Rattle.story_code.specs.declared.emit.EmitFault.{EmitFault}
 use Rattle.story_code.specs.declared.emit.EmitFault.TheVariants as emit
 use Rattle.code_table.specs.Emitted.{AllFit, HaveNoTable, number_from, origins_from}
 use Rattle.code_table.specs.Origins.{Describes, Fits, Origin, origins_of, origins_of_rule, part_of, use_for}
+use Rattle.code_table.specs.declared.adding.Coded.{Coded}
 use Rattle.code_table.specs.declared.adding.NotAdded.{NotAdded}
 use Rattle.code_table.specs.declared.adding.NotAdded.TheVariants as added
 use Rattle.code_table.specs.declared.fault.TableFault.{TableFault}
@@ -43,6 +44,13 @@ AreCoded z string first (origin ∷ origins) codes tests =
 abbrev pub AddAll : Counts → (List ℕ → ℕ) → ℕ → List Origin → List (List ℕ) → List (List ℕ) → List (List ℕ) → List (List ℕ) → Type 0
 AddAll z string heads origins codes tests more_codes more_tests =
     (before : List Origin) → AreCoded z string heads before codes tests → AreCoded z string heads (before ++ origins) more_codes more_tests
+
+-- what was put together becomes what is, by an origin and by several
+abbrev pub AddsTo : Counts → (List ℕ → ℕ) → ℕ → Origin → Coded → Coded → Type 0
+AddsTo z string heads origin old new = Adds z string heads origin old.codes.items old.tests.items new.codes.items new.tests.items
+
+abbrev pub AddAllTo : Counts → (List ℕ → ℕ) → ℕ → List Origin → Coded → Coded → Type 0
+AddAllTo z string heads origins old new = AddAll z string heads origins old.codes.items old.tests.items new.codes.items new.tests.items
 
 -- ---- what isn't added
 

@@ -9,8 +9,10 @@ use Rattle.play_meaning.specs.Trees.{Text}
 use Rattle.play_meaning.specs.declared.instruction.Instruction.{Instruction}
 use Rattle.play_meaning.specs.declared.operand.Counts.{Counts}
 use Rattle.story_code.specs.Emitting.{can_say_all}
+use Rattle.story_code.specs.Soundness.{Judged}
 use Rattle.story_code.specs.SoundlyEmitted.{among}
-use Rattle.code_table.specs.Origins.{Describes, Fits, Origin, origins_of, origins_of_rule, origins_of_scene, part_of}
+use Rattle.code_table.specs.Origins.{Describes, Fits, Origin, origins_of, origins_of_rule, origins_of_scene, part_of, use_for}
+use Rattle.code_table.specs.Tables.{IsTableOf}
 use Rattle.code_table.specs.declared.fault.TableFault.{TableFault}
 use Rattle.code_table.specs.declared.fault.TableFault.TheVariants.{LongRule, LongScene, LongText, TooMany, Memory}
 
@@ -37,6 +39,10 @@ AllFit z string origins = AllByRecursion (λ origin. (own codes : ℕ) → Fits 
 pub record CanBeSaid (string : List ℕ → ℕ) (origins : List Origin) : Type 0 where
   pub each : AllByRecursion (λ e. can_say_all e ≡ true) (origins_emitted string origins)
   pub few : length (codes_of_origins string origins) < 65536
+
+-- these bytes are a table of codes, the first for what these origins are
+abbrev pub AreTableFor : Counts → List Origin → List (List ℕ) → Type 0
+AreTableFor z origins codes = (judged : List Judged) × IsTableOf (record z { codes = length codes }) (map use_for origins) codes judged
 
 -- behind these origins, which fit and bytes can say, this one is the first that doesn't fit, or whose code and tests bytes can't
 -- say; the first test of all has this number

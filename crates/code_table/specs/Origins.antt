@@ -36,7 +36,13 @@ origins_of_scene scene = map Asks (in_list scene.begins ++ in_list scene.ends)
 abbrev pub origins_of : List Text → List Rule → List Scene → List Origin
 origins_of texts rules scenes = map Describes texts ++ (flat_map origins_of_rule rules ++ flat_map origins_of_scene scenes)
 
--- of those that a source means
+-- of the rules, of the scenes and of all that a source means
+abbrev pub origins_in_rules : List MeantRule → List Origin
+origins_in_rules rules = flat_map origins_of_rule (map rule_meant rules)
+
+abbrev pub origins_in_scenes : List MeantScene → List Origin
+origins_in_scenes scenes = flat_map origins_of_scene (map scene_meant scenes)
+
 abbrev pub origins_meant : List MeantText → List MeantRule → List MeantScene → List Origin
 origins_meant texts rules scenes = origins_of (map text_meant texts) (map rule_meant rules) (map scene_meant scenes)
 

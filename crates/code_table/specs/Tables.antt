@@ -41,3 +41,7 @@ pub record IsTableOf (z : Counts) (heads : List Use) (codes : List (List ℕ)) (
   -- each test is named by the next number
   pub in_turn : map (λ named. named.1) (tests_of (map code_told judged)) ≡ range_with_len (length heads) (length (tests_of (map code_told judged)))
   pub sound : AllByRecursion (λ j. IsSoundCode j.sizes j.bytes) judged
+
+-- they are none
+abbrev pub AreNoTable : Counts → List Use → List (List ℕ) → Type 0
+AreNoTable z heads codes = (judged : List Judged) → IsTableOf z heads codes judged → ⊥

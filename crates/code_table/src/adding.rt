@@ -2,7 +2,7 @@
 ghost use Rattle.std.specs.Prelude.{◌≡◌, ◌+◌, ◌++◌, ℕ, drop, take, IfErr, length, List, OnOk};
 ghost use Rattle.object_words.specs.Mentions.{number_in};
 ghost use Rattle.play_meaning.specs.Meant.{body_meant, condition_meant, text_meant};
-ghost use Rattle.code_table.specs.Coding.{Adds, HasNoCode, not_emitted, number_behind};
+ghost use Rattle.code_table.specs.Coding.{AddsTo, HasNoCode, not_emitted, number_behind};
 ghost use Rattle.code_table.specs.Origins.{Asks, Describes, Does};
 
 use object_words::Strings;
@@ -71,7 +71,7 @@ pub fn add_text(
     heads: usize,
     text: &Text,
 ) -> Result<(), NotAdded>
-    ensures coded { OnOk result (Adds counts.now (number_in strings.now) heads (Describes (text_meant text.now)) out.old.codes.items out.old.tests.items out.new.codes.items out.new.tests.items) }
+    ensures coded { OnOk result (AddsTo counts.now (number_in strings.now) heads (Describes (text_meant text.now)) out.old out.new) }
     ensures none { IfErr result (HasNoCode counts.now (number_in strings.now) (heads + length out.old.tests.items) (Describes (text_meant text.now))) }
 {
     let Some(first) = number_behind(heads, out.tests.len()) else {
@@ -94,7 +94,7 @@ pub fn add_condition(
     heads: usize,
     condition: &Condition,
 ) -> Result<(), NotAdded>
-    ensures coded { (string : List ℕ → ℕ) → OnOk result (Adds counts.now string heads (Asks (condition_meant condition.now)) out.old.codes.items out.old.tests.items out.new.codes.items out.new.tests.items) }
+    ensures coded { (string : List ℕ → ℕ) → OnOk result (AddsTo counts.now string heads (Asks (condition_meant condition.now)) out.old out.new) }
     ensures none { (string : List ℕ → ℕ) → IfErr result (HasNoCode counts.now string (heads + length out.old.tests.items) (Asks (condition_meant condition.now))) }
 {
     let Some(first) = number_behind(heads, out.tests.len()) else {
@@ -118,7 +118,7 @@ pub fn add_body(
     heads: usize,
     body: &[Phrase],
 ) -> Result<(), NotAdded>
-    ensures coded { OnOk result (Adds counts.now (number_in strings.now) heads (Does (body_meant body.now)) out.old.codes.items out.old.tests.items out.new.codes.items out.new.tests.items) }
+    ensures coded { OnOk result (AddsTo counts.now (number_in strings.now) heads (Does (body_meant body.now)) out.old out.new) }
     ensures none { IfErr result (HasNoCode counts.now (number_in strings.now) (heads + length out.old.tests.items) (Does (body_meant body.now))) }
 {
     let Some(first) = number_behind(heads, out.tests.len()) else {

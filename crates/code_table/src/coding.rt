@@ -5,10 +5,9 @@ ghost use Rattle.play_meaning.specs.Meant.{condition_meant, text_meant};
 ghost use Rattle.play_meaning.specs.Patterns.{rule_meant};
 ghost use Rattle.play_meaning.specs.ScenesMeant.{scene_meant};
 ghost use Rattle.play_meaning.specs.TranslatedScripts.{in_list};
-ghost use Rattle.std.specs.List.{flat_map};
 ghost use Rattle.std.specs.Option.{option_map};
-ghost use Rattle.code_table.specs.Coding.{AddAll, AreCoded, HaveNone, RulesHaveNone, ScenesHaveNone, StopIn, TextsHaveNone, rule_fault, scene_fault, text_fault};
-ghost use Rattle.code_table.specs.Origins.{Asks, Describes, origins_meant, origins_of_rule, origins_of_scene};
+ghost use Rattle.code_table.specs.Coding.{AddAllTo, AreCoded, HaveNone, RulesHaveNone, ScenesHaveNone, StopIn, TextsHaveNone, rule_fault, scene_fault, text_fault};
+ghost use Rattle.code_table.specs.Origins.{Asks, Describes, origins_in_rules, origins_in_scenes, origins_meant, origins_of_rule, origins_of_scene};
 
 use crate::adding::{Coded, NotAdded, add_body, add_condition, add_text, number_behind};
 use crate::fault::TableFault;
@@ -47,7 +46,7 @@ fn heads_in_scene(scene: &MeantScene) -> usize
 
 /// How many codes there are with those of rules in front of all tests that they name, if two bytes say it.
 fn rules_counted(before: usize, rules: &[MeantRule]) -> Option<usize>
-    ensures { MatchOption result (65536 ≤ before + length (flat_map origins_of_rule (map rule_meant rules.now))) (λ heads. heads ≡ before + length (flat_map origins_of_rule (map rule_meant rules.now))) }
+    ensures { MatchOption result (65536 ≤ before + length (origins_in_rules rules.now)) (λ heads. heads ≡ before + length (origins_in_rules rules.now)) }
 {
     let mut count = before;
     let mut rest = rules;
@@ -63,7 +62,7 @@ fn rules_counted(before: usize, rules: &[MeantRule]) -> Option<usize>
 
 /// How many there are with those of scenes.
 fn scenes_counted(before: usize, scenes: &[MeantScene]) -> Option<usize>
-    ensures { MatchOption result (65536 ≤ before + length (flat_map origins_of_scene (map scene_meant scenes.now))) (λ heads. heads ≡ before + length (flat_map origins_of_scene (map scene_meant scenes.now))) }
+    ensures { MatchOption result (65536 ≤ before + length (origins_in_scenes scenes.now)) (λ heads. heads ≡ before + length (origins_in_scenes scenes.now)) }
 {
     let mut count = before;
     let mut rest = scenes;
@@ -146,7 +145,7 @@ fn add_rule(
     heads: usize,
     rule: &MeantRule,
 ) -> Result<(), NotAdded>
-    ensures coded { OnOk result (AddAll counts.now (number_in strings.now) heads (origins_of_rule (rule_meant rule.now)) out.old.codes.items out.old.tests.items out.new.codes.items out.new.tests.items) }
+    ensures coded { OnOk result (AddAllTo counts.now (number_in strings.now) heads (origins_of_rule (rule_meant rule.now)) out.old out.new) }
     ensures none { IfErr result (StopIn counts.now (number_in strings.now) heads (origins_of_rule (rule_meant rule.now)) out.old.codes.items out.old.tests.items) }
 {
     if let Some(condition) = &rule.head.condition {
@@ -167,7 +166,7 @@ fn add_rules(
     heads: usize,
     rules: &[MeantRule],
 ) -> Result<(), TableFault>
-    ensures coded { OnOk result (AddAll counts.now (number_in strings.now) heads (flat_map origins_of_rule (map rule_meant rules.now)) out.old.codes.items out.old.tests.items out.new.codes.items out.new.tests.items) }
+    ensures coded { OnOk result (AddAllTo counts.now (number_in strings.now) heads (origins_in_rules rules.now) out.old out.new) }
     ensures none { IfErr result (RulesHaveNone counts.now (number_in strings.now) heads (map rule_meant rules.now) out.old.codes.items out.old.tests.items) }
 {
     let mut rest = rules;
@@ -200,7 +199,7 @@ fn add_asked(
     heads: usize,
     asked: &Option<Condition>,
 ) -> Result<(), NotAdded>
-    ensures coded { (string : List ℕ → ℕ) → OnOk result (AddAll counts.now string heads (map Asks (in_list (option_map condition_meant asked.now))) out.old.codes.items out.old.tests.items out.new.codes.items out.new.tests.items) }
+    ensures coded { (string : List ℕ → ℕ) → OnOk result (AddAllTo counts.now string heads (map Asks (in_list (option_map condition_meant asked.now))) out.old out.new) }
     ensures none { (string : List ℕ → ℕ) → IfErr result (StopIn counts.now string heads (map Asks (in_list (option_map condition_meant asked.now))) out.old.codes.items out.old.tests.items) }
 {
     match asked {
@@ -217,7 +216,7 @@ fn add_scene(
     heads: usize,
     scene: &MeantScene,
 ) -> Result<(), NotAdded>
-    ensures coded { (string : List ℕ → ℕ) → OnOk result (AddAll counts.now string heads (origins_of_scene (scene_meant scene.now)) out.old.codes.items out.old.tests.items out.new.codes.items out.new.tests.items) }
+    ensures coded { (string : List ℕ → ℕ) → OnOk result (AddAllTo counts.now string heads (origins_of_scene (scene_meant scene.now)) out.old out.new) }
     ensures none { (string : List ℕ → ℕ) → IfErr result (StopIn counts.now string heads (origins_of_scene (scene_meant scene.now)) out.old.codes.items out.old.tests.items) }
 {
     match add_asked(alloc, counts, out, heads, &scene.begins) {
@@ -234,7 +233,7 @@ fn add_scenes(
     heads: usize,
     scenes: &[MeantScene],
 ) -> Result<(), TableFault>
-    ensures coded { (string : List ℕ → ℕ) → OnOk result (AddAll counts.now string heads (flat_map origins_of_scene (map scene_meant scenes.now)) out.old.codes.items out.old.tests.items out.new.codes.items out.new.tests.items) }
+    ensures coded { (string : List ℕ → ℕ) → OnOk result (AddAllTo counts.now string heads (origins_in_scenes scenes.now) out.old out.new) }
     ensures none { (string : List ℕ → ℕ) → IfErr result (ScenesHaveNone counts.now string heads (map scene_meant scenes.now) out.old.codes.items out.old.tests.items) }
 {
     let mut rest = scenes;

@@ -1,14 +1,12 @@
 //! The codes of texts, rules and scenes, as a table.
-ghost use Rattle.std.specs.Prelude.{◌≡◌, ◌<◌, IfErr, IfOk, List, OnOk, length, map};
+ghost use Rattle.std.specs.Prelude.{◌<◌, IfErr, IfOk, OnOk, length, map};
 ghost use Rattle.object_words.specs.Mentions.{number_in};
 ghost use Rattle.play_meaning.specs.Meant.{text_meant};
 ghost use Rattle.play_meaning.specs.Patterns.{rule_meant};
 ghost use Rattle.play_meaning.specs.ScenesMeant.{scene_meant};
 ghost use Rattle.story_code.specs.Emits.{AreSpelled};
-ghost use Rattle.story_code.specs.Soundness.{Judged};
-ghost use Rattle.code_table.specs.Emitted.{AllFit, CanBeSaid, HaveNoTable, codes_of_origins};
-ghost use Rattle.code_table.specs.Origins.{origins_meant, use_for};
-ghost use Rattle.code_table.specs.Tables.{IsTableOf};
+ghost use Rattle.code_table.specs.Emitted.{AllFit, AreTableFor, CanBeSaid, HaveNoTable, codes_of_origins};
+ghost use Rattle.code_table.specs.Origins.{origins_meant};
 
 use crate::adding::{Coded, number_behind};
 use crate::coding::{all_coded, heads_counted};
@@ -42,7 +40,7 @@ pub fn code_table(
     ensures codes { IfOk result (λ codes. AreSpelled codes.items (codes_of_origins (number_in strings.now) (origins_meant texts.now rules.now scenes.now))) }
     ensures fit { OnOk result (AllFit counts.now (number_in strings.now) (origins_meant texts.now rules.now scenes.now)) }
     ensures said { OnOk result (CanBeSaid (number_in strings.now) (origins_meant texts.now rules.now scenes.now)) }
-    ensures table { IfOk result (λ codes. (judged : List Judged) × IsTableOf (record counts.now { codes = length codes.items }) (map use_for (origins_meant texts.now rules.now scenes.now)) codes.items judged) }
+    ensures table { IfOk result (λ codes. AreTableFor counts.now (origins_meant texts.now rules.now scenes.now) codes.items) }
     ensures few { IfOk result (λ codes. length codes.items < 65536) }
     ensures none { IfErr result (HaveNoTable counts.now (number_in strings.now) (map text_meant texts.now) (map rule_meant rules.now) (map scene_meant scenes.now)) }
 {

@@ -1,8 +1,8 @@
 //! The table of a story's codes.
-ghost use Rattle.std.specs.Prelude.{◌≡◌, ◌<◌, IfOk, List, MatchOption, length};
+ghost use Rattle.std.specs.Prelude.{◌<◌, IfOk, MatchOption, length};
 ghost use Rattle.story_code.specs.Soundness.{Judged};
 ghost use Rattle.code_table.specs.Growing.{Grows, IsCodeOf};
-ghost use Rattle.code_table.specs.Tables.{IsTableOf};
+ghost use Rattle.code_table.specs.Tables.{AreNoTable, IsTableOf};
 
 use crate::naming::add_tests;
 use play_meaning::{Counts, Use};
@@ -64,7 +64,7 @@ pub fn table_of(
     heads: &[Use],
     codes: &[TextBytes],
 ) -> Result<Option<Vec<Verified>>, AllocError>
-    ensures { IfOk result (λ found. MatchOption found ((judged : List Judged) → IsTableOf counts.now heads.now codes.now judged → ⊥) (λ table. IsTableOf counts.now heads.now codes.now table.items)) }
+    ensures { IfOk result (λ found. MatchOption found (AreNoTable counts.now heads.now codes.now) (λ table. IsTableOf counts.now heads.now codes.now table.items)) }
 {
     if codes.len() != usize::from(counts.codes) {
         return Ok(None);

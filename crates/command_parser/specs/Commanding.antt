@@ -3,15 +3,20 @@ use Rattle.std.specs.Prelude.{ℕ, Bool, true, false, ◌&&◌, ◌||◌, ◌==�
 use Rattle.std.specs.List.{list_any}
 use Rattle.std.specs.Option.{option_map}
 use Rattle.world_meaning.specs.Texts.{empty_text, no_verb_text, not_seen_text, not_understood_text}
-use Rattle.play_meaning.specs.Commands.{begins_with, is_alone, means_all, settle}
-use Rattle.play_meaning.specs.Games.{ActsAll, Quit, Reading, Says, Undo}
+use Rattle.play_meaning.specs.Commands.{answer, begins_with, done_to, is_alone, means_all, settle}
+use Rattle.play_meaning.specs.Games.{ActsAll, Question, Quit, Reading, Says, Undo}
 use Rattle.play_meaning.specs.Grammar.{Grammar, Line}
 use Rattle.command_parser.specs.Searching.{first_filled, fits, or_later}
-use Rattle.command_parser.specs.Settling.{is_asking}
+use Rattle.command_parser.specs.Settling.{comes_to, is_asking}
+use Rattle.command_parser.specs.declared.filling.Outcome.{Outcome}
 
 -- what a line is read as, if its slots can be filled
 abbrev pub filled_read : Grammar → (ℕ → Bool) → List (List ℕ) → Line → Option Reading
 filled_read g sees words line = option_map (settle g line.action []) (first_filled g sees line.tokens words)
+
+-- what its slots come to
+abbrev pub line_outcome : Grammar → (ℕ → Bool) → List (List ℕ) → Line → Option Outcome
+line_outcome g sees words line = comes_to g (done_to line.action []) (first_filled g sees line.tokens words)
 
 -- what a line is read as, if it is
 abbrev pub line_read : Grammar → (ℕ → Bool) → List (List ℕ) → Line → Option Reading
@@ -51,9 +56,17 @@ unread_text g (verb ∷ words) = unread_by (list_any (line_begins verb) g.lines)
 
 -- ---- a command
 
+-- what the first line that is read makes of it, else what is said
+abbrev pub line_command : Grammar → (ℕ → Bool) → List (List ℕ) → Reading
+line_command g sees words = read_or (lines_read g sees words g.lines) (Says (unread_text g words))
+
 abbrev pub command_by : Grammar → (ℕ → Bool) → List (List ℕ) → Reading
 command_by g sees words =
     if length words == 0 then Says empty_text
     else if is_alone words (codes "undo") then Undo
     else if is_alone words (codes "quit") || is_alone words (codes "q") then Quit
-    else read_or (lines_read g sees words g.lines) (Says (unread_text g words))
+    else line_command g sees words
+
+-- and what it means while this question is open
+abbrev pub answer_by : Grammar → (ℕ → Bool) → Question → List (List ℕ) → Reading
+answer_by g sees question words = answer g (Some question) words (command_by g sees words)

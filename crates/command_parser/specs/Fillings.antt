@@ -1,8 +1,9 @@
 -- Which objects a slot's phrase may mean, object by object, and what the candidates come to.
 use Rattle.std.specs.Prelude.{ℕ, Bool, true, false, not, ◌&&◌, ◌||◌, List, [], ◌∷◌, if◌then◌else◌}
+use Rattle.std.specs.List.{list_all}
 use Rattle.play_meaning.specs.Commands.{is_settled}
 use Rattle.play_meaning.specs.Grammar.{Direction, Grammar, Something, Token, Word, are_named_alike, goes_by}
-use Rattle.play_meaning.specs.Settings.{direction_kind, thing_kind}
+use Rattle.play_meaning.specs.Settings.{direction_kind, objects_of, thing_kind}
 use Rattle.command_parser.specs.declared.filling.Filling.{Filling}
 use Rattle.command_parser.specs.declared.filling.Filling.TheVariants.{Empty, Open, Settled}
 
@@ -25,6 +26,10 @@ filling_of g (o ∷ objects) = if is_settled g (o ∷ objects) then Settled o el
 -- an object that passes a test is named as the first
 abbrev pub is_alike_if : Grammar → (ℕ → Bool) → ℕ → ℕ → Bool
 is_alike_if g passes first o = not (passes o) || are_named_alike g first o
+
+-- all objects that a slot's noun may mean are named as this one
+abbrev pub are_alike : Grammar → (ℕ → Bool) → Token → List (List ℕ) → ℕ → Bool
+are_alike g sees slot noun first = list_all (is_alike_if g (is_candidate g sees slot noun) first) (objects_of g.setting)
 
 abbrev pub filling_by : Bool → ℕ → Filling
 filling_by true o = Settled o

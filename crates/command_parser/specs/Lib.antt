@@ -7,3 +7,4 @@ pub mod Scanning
 pub mod Searching
 pub mod Settling
 pub mod Tokens
+pub mod Typed

@@ -3,6 +3,7 @@
 use Rattle.std.specs.Prelude.{ℕ, Bool, true, false, ◌||◌, List, [], ◌∷◌, ◌++◌, Option, None, Some, if◌then◌else◌}
 use Rattle.world_meaning.specs.Spelling.{is_spelled}
 use Rattle.play_meaning.specs.Grammar.{Direction, Grammar, Something, Token, Word, candidates}
+use Rattle.command_parser.specs.Tokens.{tokens_from}
 
 abbrev pub or_later : {A : Type 0} → Option A → Option A → Option A
 or_later None later = later
@@ -34,6 +35,24 @@ first_filled g sees [] (word ∷ words) = None
 first_filled g sees (Word spelling ∷ tokens) words = at_words (first_filled g sees tokens) (behind_word spelling words)
 first_filled g sees (Something ∷ tokens) words = slot_filled (candidates g sees Something) (first_filled g sees tokens) [] words
 first_filled g sees (Direction ∷ tokens) words = slot_filled (candidates g sees Direction) (first_filled g sees tokens) [] words
+
+-- ---- the same, by the places of a line's tokens
+
+-- of a token and those from this place on
+abbrev pub filled_on : Grammar → (ℕ → Bool) → Token → ℕ → ℕ → List (List ℕ) → Option (List (List ℕ))
+filled_on g sees token line after words = first_filled g sees (token ∷ tokens_from g line after) words
+
+-- of a word
+abbrev pub word_filled : Grammar → (ℕ → Bool) → List ℕ → ℕ → ℕ → List (List ℕ) → Option (List (List ℕ))
+word_filled g sees spelling line after words = at_words (first_filled g sees (tokens_from g line after)) (behind_word spelling words)
+
+-- of a slot
+abbrev pub slot_from : Grammar → (ℕ → Bool) → Token → ℕ → ℕ → List (List ℕ) → Option (List (List ℕ))
+slot_from g sees slot line after words = slot_filled (candidates g sees slot) (first_filled g sees (tokens_from g line after)) [] words
+
+-- of a slot that has this phrase, the words behind it being left to the tokens behind
+abbrev pub phrase_filled : Grammar → (ℕ → Bool) → Token → List (List ℕ) → ℕ → ℕ → List (List ℕ) → Option (List (List ℕ))
+phrase_filled g sees slot phrase line after behind = in_front (candidates g sees slot phrase) (first_filled g sees (tokens_from g line after) behind)
 
 -- ---- whether there is any way to part words among tokens
 

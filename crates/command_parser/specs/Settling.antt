@@ -1,11 +1,12 @@
 -- What the candidates of slots, one behind the other, come to: an action, or a question, whose lists come later.
-use Rattle.std.specs.Prelude.{ℕ, Bool, true, false, List, [], ◌∷◌, ◌++◌, Option, None, Some}
+use Rattle.std.specs.Prelude.{ℕ, Bool, true, false, List, [], ◌∷◌, ◌++◌, Option, None, Some, filter}
+use Rattle.std.specs.Option.{option_map}
 use Rattle.play_meaning.specs.Commands.{asks_for, settle}
-use Rattle.play_meaning.specs.Games.{Acts as ActsSo, ActsAll as ActsAllSo, Asks as AsksSo, Quit as QuitSo, Reading, Says, Undo as UndoSo}
+use Rattle.play_meaning.specs.Games.{Acts as ActsSo, ActsAll as ActsAllSo, Asks as AsksSo, Question, Quit as QuitSo, Reading, Says, Undo as UndoSo}
 use Rattle.play_meaning.specs.Grammar.{Grammar}
 use Rattle.play_meaning.specs.declared.action.ActionNow.{ActionNow}
 use Rattle.world_meaning.specs.Texts.{not_seen_text}
-use Rattle.command_parser.specs.Fillings.{filling_of}
+use Rattle.command_parser.specs.Fillings.{filling_of, is_meant}
 use Rattle.command_parser.specs.declared.filling.Filling.{Filling}
 use Rattle.command_parser.specs.declared.filling.Filling.TheVariants.{Empty, Open, Settled}
 use Rattle.command_parser.specs.declared.filling.Outcome.{Outcome}
@@ -37,6 +38,10 @@ abbrev pub outcome_of : Grammar → ActionNow → List (List ℕ) → Outcome
 outcome_of g now [] = Acts now
 outcome_of g now (slot ∷ slots) = settled_by (filling_of g slot) now (λ next. outcome_of g next slots)
 
+-- what they come to, if the slots can be filled
+abbrev pub comes_to : Grammar → ActionNow → Option (List (List ℕ)) → Option Outcome
+comes_to g now slots = option_map (outcome_of g now) slots
+
 -- where not all candidates of a slot are named alike, it is asked which is meant, whatever the slots behind it come to
 abbrev pub asks_unless : Bool → Outcome → Outcome
 asks_unless true later = later
@@ -66,3 +71,7 @@ abbrev pub settled_as : Grammar → ℕ → List ℕ → List ℕ → List (List
 settled_as g action chosen slot others Empty = Says not_seen_text
 settled_as g action chosen slot others (Settled o) = settle g action (chosen ++ o ∷ []) others
 settled_as g action chosen slot others Open = asks_for g action chosen slot others
+
+-- what a question means whose candidates are those that go by the words of this noun
+abbrev pub narrowed_to : Grammar → Question → List (List ℕ) → Reading
+narrowed_to g question noun = settle g question.action question.chosen (filter (is_meant g noun) question.candidates ∷ question.others)

@@ -1,9 +1,10 @@
 //! Whether a line for taking or dropping a thing is said of all things: `all` or `everything` stands in the place of its slot.
-ghost use Rattle.std.specs.Prelude.{◌≡◌, map};
+ghost use Rattle.std.specs.Prelude.{◌≡◌};
 ghost use Rattle.play_meaning.specs.Commands.{is_all, means_all, stand_at, stands_at, takes_all};
 ghost use Rattle.command_grammar.specs.Lines.{told_token};
 ghost use Rattle.command_parser.specs.Alls.{is_one_thing_behind};
 ghost use Rattle.command_parser.specs.Tokens.{line_at, tokens_from};
+ghost use Rattle.command_parser.specs.Typed.{typed};
 
 use crate::Commands;
 use crate::next_token::next_token;
@@ -39,7 +40,7 @@ fn stands_at(token: Token<'_>, word: &[u8]) -> bool
 
 /// Whether each of the words stands at a token of a line from a place on, and each of these tokens has a word.
 fn stand_at<C: Commands>(commands: &C, line: u16, place: usize, words: &[&[u8]]) -> bool
-    ensures { result ≡ stand_at (tokens_from (C.grammar commands.now) line place) (map (λ word. word.now) words.now) }
+    ensures { result ≡ stand_at (tokens_from (C.grammar commands.now) line place) (typed words.now) }
 {
     match next_token(commands, line, place) {
         None => words.is_empty(),
@@ -67,7 +68,7 @@ fn is_one_thing_behind<C: Commands>(commands: &C, line: u16, place: usize, found
 /// Whether the words are those of a line for taking or dropping a thing, with `all` or `everything` in the place of its slot.
 #[tactic(auto, using(crate::proofs::OneThing::one_thing_is))]
 pub(crate) fn means_all<C: Commands>(commands: &C, line: u16, words: &[&[u8]]) -> bool
-    ensures { result ≡ means_all (map (λ word. word.now) words.now) (line_at (C.grammar commands.now) line) }
+    ensures { result ≡ means_all (typed words.now) (line_at (C.grammar commands.now) line) }
 {
     takes_all(commands.action(line))
         && is_one_thing_behind(commands, line, 0, false)

@@ -1,11 +1,11 @@
 //! What the words of a command mean while a question is open: its candidates that go by them, else a new command.
-ghost use Rattle.std.specs.Prelude.{◌≡◌, ◌∷◌, IfOk, OnErr, filter, find, map, Some, true};
+ghost use Rattle.std.specs.Prelude.{◌≡◌, IfOk, OnErr, filter, find, Some, true};
 ghost use Rattle.std.specs.List.{list_all};
-ghost use Rattle.play_meaning.specs.Commands.{answer, settle};
-ghost use Rattle.command_parser.specs.Commanding.{command_by};
+ghost use Rattle.command_parser.specs.Commanding.{answer_by};
 ghost use Rattle.command_parser.specs.Fillings.{filling_of, is_alike_if, is_empty, is_meant};
 ghost use Rattle.command_parser.specs.Readings.{told};
-ghost use Rattle.command_parser.specs.Settling.{is_asking, outcome_of, settled_by};
+ghost use Rattle.command_parser.specs.Settling.{is_asking, narrowed_to, outcome_of, settled_by};
+ghost use Rattle.command_parser.specs.Typed.{typed};
 
 use crate::candidates::{are_named_alike, filling_by, is_meant};
 use crate::command::meaning;
@@ -21,7 +21,7 @@ use world_meaning::ObjNo;
 
 /// The first of these objects that goes by the words of a noun.
 fn first_meant<C: Commands>(commands: &C, noun: &[&[u8]], objects: &[ObjNo]) -> Option<ObjNo>
-    ensures { result ≡ find (is_meant (C.grammar commands.now) (map (λ word. word.now) noun.now)) objects.now }
+    ensures { result ≡ find (is_meant (C.grammar commands.now) (typed noun.now)) objects.now }
 {
     let mut rest = objects;
     while let [object, after @ ..] = rest {
@@ -35,14 +35,14 @@ fn first_meant<C: Commands>(commands: &C, noun: &[&[u8]], objects: &[ObjNo]) -> 
 
 /// Whether an object that goes by the words of a noun is named as the first.
 fn is_alike<C: Commands>(commands: &C, noun: &[&[u8]], first: ObjNo, object: ObjNo) -> bool
-    ensures { result ≡ is_alike_if (C.grammar commands.now) (is_meant (C.grammar commands.now) (map (λ word. word.now) noun.now)) first object }
+    ensures { result ≡ is_alike_if (C.grammar commands.now) (is_meant (C.grammar commands.now) (typed noun.now)) first object }
 {
     !is_meant(commands, noun, object) || are_named_alike(commands, first, object)
 }
 
 /// Whether all of these objects that go by the words of a noun are named as the first.
 fn are_alike<C: Commands>(commands: &C, noun: &[&[u8]], first: ObjNo, objects: &[ObjNo]) -> bool
-    ensures { result ≡ list_all (is_alike_if (C.grammar commands.now) (is_meant (C.grammar commands.now) (map (λ word. word.now) noun.now)) first) objects.now }
+    ensures { result ≡ list_all (is_alike_if (C.grammar commands.now) (is_meant (C.grammar commands.now) (typed noun.now)) first) objects.now }
 {
     let mut rest = objects;
     while let [object, after @ ..] = rest {
@@ -57,7 +57,7 @@ fn are_alike<C: Commands>(commands: &C, noun: &[&[u8]], first: ObjNo, objects: &
 /// What those of these objects come to that go by the words of a noun.
 #[tactic(auto, using(crate::proofs::Filters::none_pass))]
 fn narrowed_filling<C: Commands>(commands: &C, noun: &[&[u8]], objects: &[ObjNo]) -> Filling
-    ensures { result ≡ filling_of (C.grammar commands.now) (filter (is_meant (C.grammar commands.now) (map (λ word. word.now) noun.now)) objects.now) }
+    ensures { result ≡ filling_of (C.grammar commands.now) (filter (is_meant (C.grammar commands.now) (typed noun.now)) objects.now) }
 {
     match first_meant(commands, noun, objects) {
         None => Filling::Empty,
@@ -72,7 +72,7 @@ fn meant<C: Commands>(
     noun: &[&[u8]],
     objects: &[ObjNo],
 ) -> Result<Vec<ObjNo>, AllocError>
-    ensures { IfOk result (λ all. all.items ≡ filter (is_meant (C.grammar commands.now) (map (λ word. word.now) noun.now)) objects.now) }
+    ensures { IfOk result (λ all. all.items ≡ filter (is_meant (C.grammar commands.now) (typed noun.now)) objects.now) }
 {
     let mut all = Vec::new(alloc);
     let mut rest = objects;
@@ -110,9 +110,7 @@ fn listed_answer<C: Commands>(
     question: &Question,
     noun: &[&[u8]],
 ) -> Result<Reading, AllocError>
-    ensures { IfOk result (λ reading. told (C.grammar commands.now) reading
-        ≡ settle (C.grammar commands.now) question.now.action question.now.chosen
-        (filter (is_meant (C.grammar commands.now) (map (λ word. word.now) noun.now)) question.now.candidates ∷ question.now.others)) }
+    ensures { IfOk result (λ reading. told (C.grammar commands.now) reading ≡ narrowed_to (C.grammar commands.now) question.now (typed noun.now)) }
 {
     let mut slots = copies(alloc, question.others())?;
     let objects = meant(alloc, commands, noun, question.candidates())?;
@@ -129,13 +127,9 @@ fn narrowed<C: Commands>(
     noun: &[&[u8]],
     filling: Filling,
 ) -> Result<Reading, AllocError>
-    requires comes_to { filling ≡ filling_of (C.grammar commands.now) (filter (is_meant (C.grammar commands.now) (map (λ word. word.now) noun.now)) question.now.candidates) }
-    ensures read { IfOk result (λ reading. told (C.grammar commands.now) reading
-        ≡ settle (C.grammar commands.now) question.now.action question.now.chosen
-        (filter (is_meant (C.grammar commands.now) (map (λ word. word.now) noun.now)) question.now.candidates ∷ question.now.others)) }
-    ensures asks { OnErr result (is_asking
-        (settle (C.grammar commands.now) question.now.action question.now.chosen
-        (filter (is_meant (C.grammar commands.now) (map (λ word. word.now) noun.now)) question.now.candidates ∷ question.now.others)) ≡ true) }
+    requires comes_to { filling ≡ filling_of (C.grammar commands.now) (filter (is_meant (C.grammar commands.now) (typed noun.now)) question.now.candidates) }
+    ensures read { IfOk result (λ reading. told (C.grammar commands.now) reading ≡ narrowed_to (C.grammar commands.now) question.now (typed noun.now)) }
+    ensures asks { OnErr result (is_asking (narrowed_to (C.grammar commands.now) question.now (typed noun.now)) ≡ true) }
 {
     let begun = done_to(question.action(), question.chosen());
     match settled_by(commands, filling, &begun, question.others()) {
@@ -163,11 +157,8 @@ pub(crate) fn answer<C: Commands>(
     question: &Question,
     words: &[&[u8]],
 ) -> Result<Reading, AllocError>
-    ensures read { IfOk result (λ reading. told (C.grammar commands.now) reading
-        ≡ answer (C.grammar commands.now) (Some question.now) (map (λ word. word.now) words.now) (command_by (C.grammar commands.now) (C.sees commands.now) (map (λ word. word.now) words.now))) }
-    ensures asks { OnErr result (is_asking
-        (answer (C.grammar commands.now) (Some question.now) (map (λ word. word.now) words.now)
-        (command_by (C.grammar commands.now) (C.sees commands.now) (map (λ word. word.now) words.now))) ≡ true) }
+    ensures read { IfOk result (λ reading. told (C.grammar commands.now) reading ≡ answer_by (C.grammar commands.now) (C.sees commands.now) question.now (typed words.now)) }
+    ensures asks { OnErr result (is_asking (answer_by (C.grammar commands.now) (C.sees commands.now) question.now (typed words.now)) ≡ true) }
 {
     let noun = noun_of(words);
     let filling = narrowed_filling(commands, noun, question.candidates());

@@ -1,9 +1,10 @@
 //! Which objects a slot's phrase may mean, and whether one of them is meant. Nothing is listed, and no memory taken.
-ghost use Rattle.std.specs.Prelude.{◌≡◌, find, map};
+ghost use Rattle.std.specs.Prelude.{◌≡◌, find};
 ghost use Rattle.std.specs.List.{list_all};
 ghost use Rattle.play_meaning.specs.Grammar.{are_named_alike, goes_by, has_word};
 ghost use Rattle.play_meaning.specs.Settings.{objects_of};
-ghost use Rattle.command_parser.specs.Fillings.{filling_by, is_alike_if, is_candidate, is_meant};
+ghost use Rattle.command_parser.specs.Fillings.{are_alike, filling_by, is_alike_if, is_candidate, is_meant};
+ghost use Rattle.command_parser.specs.Typed.{typed};
 ghost use Rattle.command_grammar.specs.Lines.{told_token};
 
 use crate::Commands;
@@ -13,7 +14,7 @@ use world_meaning::{KindNo, ObjNo};
 
 /// Whether an object goes by each of these words.
 fn goes_by<C: Commands>(commands: &C, object: ObjNo, words: &[&[u8]]) -> bool
-    ensures { result ≡ goes_by (C.grammar commands.now) (map (λ word. word.now) words.now) object }
+    ensures { result ≡ goes_by (C.grammar commands.now) (typed words.now) object }
 {
     let mut rest = words;
     while let [word, after @ ..] = rest {
@@ -27,7 +28,7 @@ fn goes_by<C: Commands>(commands: &C, object: ObjNo, words: &[&[u8]]) -> bool
 
 /// Whether an object goes by the words of a noun, which has one at least.
 pub(crate) fn is_meant<C: Commands>(commands: &C, noun: &[&[u8]], object: ObjNo) -> bool
-    ensures { result ≡ is_meant (C.grammar commands.now) (map (λ word. word.now) noun.now) object }
+    ensures { result ≡ is_meant (C.grammar commands.now) (typed noun.now) object }
 {
     match noun {
         [] => false,
@@ -42,7 +43,7 @@ pub(crate) fn is_candidate<C: Commands>(
     noun: &[&[u8]],
     object: ObjNo,
 ) -> bool
-    ensures { result ≡ is_candidate (C.grammar commands.now) (C.sees commands.now) (told_token slot.entry) (map (λ word. word.now) noun.now) object }
+    ensures { result ≡ is_candidate (C.grammar commands.now) (C.sees commands.now) (told_token slot.entry) (typed noun.now) object }
 {
     match slot {
         Token::Word(_) => false,
@@ -83,7 +84,7 @@ pub(crate) fn first_candidate<C: Commands>(
     slot: Token<'_>,
     noun: &[&[u8]],
 ) -> Option<ObjNo>
-    ensures { result ≡ find (is_candidate (C.grammar commands.now) (C.sees commands.now) (told_token slot.entry) (map (λ word. word.now) noun.now))
+    ensures { result ≡ find (is_candidate (C.grammar commands.now) (C.sees commands.now) (told_token slot.entry) (typed noun.now))
         (objects_of (C.grammar commands.now).setting) }
 {
     let count = commands.object_count();
@@ -105,7 +106,7 @@ fn is_alike<C: Commands>(
     object: ObjNo,
 ) -> bool
     ensures { result ≡ is_alike_if (C.grammar commands.now)
-        (is_candidate (C.grammar commands.now) (C.sees commands.now) (told_token slot.entry) (map (λ word. word.now) noun.now)) first object }
+        (is_candidate (C.grammar commands.now) (C.sees commands.now) (told_token slot.entry) (typed noun.now)) first object }
 {
     !is_candidate(commands, slot, noun, object) || are_named_alike(commands, first, object)
 }
@@ -117,9 +118,7 @@ pub(crate) fn are_candidates_alike<C: Commands>(
     noun: &[&[u8]],
     first: ObjNo,
 ) -> bool
-    ensures { result ≡ list_all (is_alike_if (C.grammar commands.now)
-        (is_candidate (C.grammar commands.now) (C.sees commands.now) (told_token slot.entry) (map (λ word. word.now) noun.now)) first)
-        (objects_of (C.grammar commands.now).setting) }
+    ensures { result ≡ are_alike (C.grammar commands.now) (C.sees commands.now) (told_token slot.entry) (typed noun.now) first }
 {
     let count = commands.object_count();
     for number in 0..count {

@@ -1,10 +1,10 @@
 //! What the words of a new command mean.
-ghost use Rattle.std.specs.Prelude.{◌≡◌, IfOk, OnErr, map, true};
+ghost use Rattle.std.specs.Prelude.{◌≡◌, IfOk, OnErr, true};
 ghost use Rattle.play_meaning.specs.Commands.{is_alone};
-ghost use Rattle.play_meaning.specs.Games.{Says};
-ghost use Rattle.command_parser.specs.Commanding.{command_by, lines_read, read_or, unread_text};
+ghost use Rattle.command_parser.specs.Commanding.{command_by, line_command};
 ghost use Rattle.command_parser.specs.Readings.{told};
 ghost use Rattle.command_parser.specs.Settling.{is_asking};
+ghost use Rattle.command_parser.specs.Typed.{typed};
 
 use crate::lines::lines_reading;
 use crate::unread::unread;
@@ -14,7 +14,7 @@ use world_meaning::is_spelled;
 
 /// Whether a word is the only one of a line.
 fn is_alone(words: &[&[u8]], word: &[u8]) -> bool
-    ensures { result ≡ is_alone (map (λ word. word.now) words.now) word.now }
+    ensures { result ≡ is_alone (typed words.now) word.now }
 {
     match words {
         [] => false,
@@ -31,11 +31,8 @@ fn line_command<C: Commands>(
     commands: &C,
     words: &[&[u8]],
 ) -> Result<Reading, AllocError>
-    ensures read { IfOk result (λ reading. told (C.grammar commands.now) reading
-        ≡ read_or (lines_read (C.grammar commands.now) (C.sees commands.now) (map (λ word. word.now) words.now) (C.grammar commands.now).lines)
-        (Says (unread_text (C.grammar commands.now) (map (λ word. word.now) words.now)))) }
-    ensures asks { OnErr result (is_asking (read_or (lines_read (C.grammar commands.now) (C.sees commands.now) (map (λ word. word.now) words.now) (C.grammar commands.now).lines)
-        (Says (unread_text (C.grammar commands.now) (map (λ word. word.now) words.now)))) ≡ true) }
+    ensures read { IfOk result (λ reading. told (C.grammar commands.now) reading ≡ line_command (C.grammar commands.now) (C.sees commands.now) (typed words.now)) }
+    ensures asks { OnErr result (is_asking (line_command (C.grammar commands.now) (C.sees commands.now) (typed words.now)) ≡ true) }
 {
     match lines_reading(alloc, commands, words)? {
         Some(reading) => Ok(reading),
@@ -49,8 +46,8 @@ pub(crate) fn meaning<C: Commands>(
     commands: &C,
     words: &[&[u8]],
 ) -> Result<Reading, AllocError>
-    ensures read { IfOk result (λ reading. told (C.grammar commands.now) reading ≡ command_by (C.grammar commands.now) (C.sees commands.now) (map (λ word. word.now) words.now)) }
-    ensures asks { OnErr result (is_asking (command_by (C.grammar commands.now) (C.sees commands.now) (map (λ word. word.now) words.now)) ≡ true) }
+    ensures read { IfOk result (λ reading. told (C.grammar commands.now) reading ≡ command_by (C.grammar commands.now) (C.sees commands.now) (typed words.now)) }
+    ensures asks { OnErr result (is_asking (command_by (C.grammar commands.now) (C.sees commands.now) (typed words.now)) ≡ true) }
 {
     if words.is_empty() {
         return Ok(Reading::Says(Said::Empty));

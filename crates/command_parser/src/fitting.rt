@@ -4,6 +4,7 @@ ghost use Rattle.std.specs.Option.{option_map};
 ghost use Rattle.command_parser.specs.Searching.{behind_word, fits, fits_at, slot_fits};
 ghost use Rattle.command_grammar.specs.Lines.{told_token};
 ghost use Rattle.command_parser.specs.Tokens.{tokens_from};
+ghost use Rattle.command_parser.specs.Typed.{typed};
 
 use crate::Commands;
 use crate::next_token::next_token;
@@ -12,7 +13,7 @@ use world_meaning::is_spelled;
 
 /// The words behind the first, if that is spelled so.
 pub(crate) fn behind_word<'a, 'b>(words: &'b [&'a [u8]], spelling: &[u8]) -> Option<&'b [&'a [u8]]>
-    ensures { option_map (λ rest. map (λ word. word.now) rest.now) result ≡ behind_word spelling.now (map (λ word. word.now) words.now) }
+    ensures { option_map (λ rest. map (λ word. word.now) rest.now) result ≡ behind_word spelling.now (typed words.now) }
 {
     match words {
         [word, rest @ ..] if is_spelled(word, spelling) => Some(rest),
@@ -23,7 +24,7 @@ pub(crate) fn behind_word<'a, 'b>(words: &'b [&'a [u8]], spelling: &[u8]) -> Opt
 /// Whether the words can be parted among the tokens of a line from a place on.
 #[cycle(fitting)]
 pub(crate) fn fits<C: Commands>(commands: &C, line: u16, place: usize, words: &[&[u8]]) -> bool
-    ensures { result ≡ fits (tokens_from (C.grammar commands.now) line place) (map (λ word. word.now) words.now) }
+    ensures { result ≡ fits (tokens_from (C.grammar commands.now) line place) (typed words.now) }
 {
     match next_token(commands, line, place) {
         None => words.is_empty(),
@@ -40,7 +41,7 @@ fn token_fits<C: Commands>(
     after: usize,
     words: &[&[u8]],
 ) -> bool
-    ensures { result ≡ fits (told_token token.entry ∷ tokens_from (C.grammar commands.now) line after) (map (λ word. word.now) words.now) }
+    ensures { result ≡ fits (told_token token.entry ∷ tokens_from (C.grammar commands.now) line after) (typed words.now) }
 {
     match token {
         Token::Word(spelling) => word_fits(commands, line, spelling, after, words),
@@ -58,7 +59,7 @@ fn word_fits<C: Commands>(
     after: usize,
     words: &[&[u8]],
 ) -> bool
-    ensures { result ≡ fits_at (fits (tokens_from (C.grammar commands.now) line after)) (behind_word spelling.now (map (λ word. word.now) words.now)) }
+    ensures { result ≡ fits_at (fits (tokens_from (C.grammar commands.now) line after)) (behind_word spelling.now (typed words.now)) }
 {
     match behind_word(words, spelling) {
         None => false,
@@ -69,7 +70,7 @@ fn word_fits<C: Commands>(
 /// Whether they can among a slot and the tokens behind it.
 #[cycle(fitting)]
 fn slot_fits<C: Commands>(commands: &C, line: u16, after: usize, words: &[&[u8]]) -> bool
-    ensures { result ≡ slot_fits (fits (tokens_from (C.grammar commands.now) line after)) (map (λ word. word.now) words.now) }
+    ensures { result ≡ slot_fits (fits (tokens_from (C.grammar commands.now) line after)) (typed words.now) }
 {
     let mut rest = words;
     while let [_, behind @ ..] = rest {

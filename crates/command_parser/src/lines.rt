@@ -1,13 +1,11 @@
 //! What the lines of a grammar make of a command's words: the first is read that is said of all things, or leaves no slot
 //! without a candidate.
-ghost use Rattle.std.specs.Prelude.{◌≡◌, [], Some, IfOk, OnErr, map, true};
+ghost use Rattle.std.specs.Prelude.{◌≡◌, Some, IfOk, OnErr, true};
 ghost use Rattle.std.specs.Option.{option_map};
-ghost use Rattle.play_meaning.specs.Commands.{done_to};
-ghost use Rattle.command_parser.specs.Commanding.{asks_if, filled_read, line_read, lines_read};
+ghost use Rattle.command_parser.specs.Commanding.{asks_if, filled_read, line_outcome, line_read, lines_read};
 ghost use Rattle.command_parser.specs.Readings.{told};
-ghost use Rattle.command_parser.specs.Searching.{first_filled};
-ghost use Rattle.command_parser.specs.Settling.{outcome_of};
 ghost use Rattle.command_parser.specs.Tokens.{line_at};
+ghost use Rattle.command_parser.specs.Typed.{typed};
 
 use crate::all::means_all;
 use crate::filling::Outcome;
@@ -25,7 +23,7 @@ fn listed_reading<C: Commands>(
     words: &[&[u8]],
 ) -> Result<Option<Reading>, AllocError>
     ensures { IfOk result (λ reading. option_map (told (C.grammar commands.now)) reading
-        ≡ filled_read (C.grammar commands.now) (C.sees commands.now) (map (λ word. word.now) words.now) (line_at (C.grammar commands.now) line)) }
+        ≡ filled_read (C.grammar commands.now) (C.sees commands.now) (typed words.now) (line_at (C.grammar commands.now) line)) }
 {
     match slots(alloc, commands, line, 0, words)? {
         None => Ok(None),
@@ -45,11 +43,10 @@ fn outcome_reading<C: Commands>(
     words: &[&[u8]],
     outcome: Outcome,
 ) -> Result<Option<Reading>, AllocError>
-    requires comes_to { option_map (outcome_of (C.grammar commands.now) (done_to (line_at (C.grammar commands.now) line).action []))
-        (first_filled (C.grammar commands.now) (C.sees commands.now) (line_at (C.grammar commands.now) line).tokens (map (λ word. word.now) words.now)) ≡ Some outcome }
+    requires comes_to { line_outcome (C.grammar commands.now) (C.sees commands.now) (typed words.now) (line_at (C.grammar commands.now) line) ≡ Some outcome }
     ensures read { IfOk result (λ reading. option_map (told (C.grammar commands.now)) reading
-        ≡ filled_read (C.grammar commands.now) (C.sees commands.now) (map (λ word. word.now) words.now) (line_at (C.grammar commands.now) line)) }
-    ensures asks { OnErr result (asks_if (filled_read (C.grammar commands.now) (C.sees commands.now) (map (λ word. word.now) words.now) (line_at (C.grammar commands.now) line)) ≡ true) }
+        ≡ filled_read (C.grammar commands.now) (C.sees commands.now) (typed words.now) (line_at (C.grammar commands.now) line)) }
+    ensures asks { OnErr result (asks_if (filled_read (C.grammar commands.now) (C.sees commands.now) (typed words.now) (line_at (C.grammar commands.now) line)) ≡ true) }
 {
     match outcome {
         Outcome::Acts(now) => Ok(Some(Reading::Acts(now))),
@@ -66,8 +63,8 @@ fn filled_reading<C: Commands>(
     words: &[&[u8]],
 ) -> Result<Option<Reading>, AllocError>
     ensures read { IfOk result (λ reading. option_map (told (C.grammar commands.now)) reading
-        ≡ filled_read (C.grammar commands.now) (C.sees commands.now) (map (λ word. word.now) words.now) (line_at (C.grammar commands.now) line)) }
-    ensures asks { OnErr result (asks_if (filled_read (C.grammar commands.now) (C.sees commands.now) (map (λ word. word.now) words.now) (line_at (C.grammar commands.now) line)) ≡ true) }
+        ≡ filled_read (C.grammar commands.now) (C.sees commands.now) (typed words.now) (line_at (C.grammar commands.now) line)) }
+    ensures asks { OnErr result (asks_if (filled_read (C.grammar commands.now) (C.sees commands.now) (typed words.now) (line_at (C.grammar commands.now) line)) ≡ true) }
 {
     let begun = done_to(commands.action(line), &[]);
     match search(commands, &begun, line, 0, words) {
@@ -85,8 +82,8 @@ fn line_reading<C: Commands>(
     words: &[&[u8]],
 ) -> Result<Option<Reading>, AllocError>
     ensures read { IfOk result (λ reading. option_map (told (C.grammar commands.now)) reading
-        ≡ line_read (C.grammar commands.now) (C.sees commands.now) (map (λ word. word.now) words.now) (line_at (C.grammar commands.now) line)) }
-    ensures asks { OnErr result (asks_if (line_read (C.grammar commands.now) (C.sees commands.now) (map (λ word. word.now) words.now) (line_at (C.grammar commands.now) line)) ≡ true) }
+        ≡ line_read (C.grammar commands.now) (C.sees commands.now) (typed words.now) (line_at (C.grammar commands.now) line)) }
+    ensures asks { OnErr result (asks_if (line_read (C.grammar commands.now) (C.sees commands.now) (typed words.now) (line_at (C.grammar commands.now) line)) ≡ true) }
 {
     if means_all(commands, line, words) {
         return Ok(Some(Reading::ActsAll(commands.action(line))));
@@ -101,8 +98,8 @@ pub(crate) fn lines_reading<C: Commands>(
     words: &[&[u8]],
 ) -> Result<Option<Reading>, AllocError>
     ensures read { IfOk result (λ reading. option_map (told (C.grammar commands.now)) reading
-        ≡ lines_read (C.grammar commands.now) (C.sees commands.now) (map (λ word. word.now) words.now) (C.grammar commands.now).lines) }
-    ensures asks { OnErr result (asks_if (lines_read (C.grammar commands.now) (C.sees commands.now) (map (λ word. word.now) words.now) (C.grammar commands.now).lines) ≡ true) }
+        ≡ lines_read (C.grammar commands.now) (C.sees commands.now) (typed words.now) (C.grammar commands.now).lines) }
+    ensures asks { OnErr result (asks_if (lines_read (C.grammar commands.now) (C.sees commands.now) (typed words.now) (C.grammar commands.now).lines) ≡ true) }
 {
     let count = commands.line_count();
     for line in 0..count {

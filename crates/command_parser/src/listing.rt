@@ -1,13 +1,14 @@
 //! The candidates of each slot of a line, listed: of the first way to part a command's words among its tokens that leaves no
 //! slot without a candidate.
-ghost use Rattle.std.specs.Prelude.{◌≡◌, ◌∷◌, ◌++◌, [], ℕ, Bool, IfOk, OnOk, filter, if◌then◌else◌, map};
+ghost use Rattle.std.specs.Prelude.{◌≡◌, ◌∷◌, ◌++◌, [], ℕ, Bool, IfOk, OnOk, filter, if◌then◌else◌};
 ghost use Rattle.std.specs.Option.{option_map};
 ghost use Rattle.play_meaning.specs.Grammar.{Grammar, candidates};
 ghost use Rattle.play_meaning.specs.Settings.{objects_of};
 ghost use Rattle.command_parser.specs.Fillings.{is_candidate};
-ghost use Rattle.command_parser.specs.Searching.{at_words, behind_word, first_filled, in_front, slot_filled};
+ghost use Rattle.command_parser.specs.Searching.{filled_on, first_filled, in_front, phrase_filled, slot_from, word_filled};
 ghost use Rattle.command_grammar.specs.Lines.{told_token};
 ghost use Rattle.command_parser.specs.Tokens.{tokens_from};
+ghost use Rattle.command_parser.specs.Typed.{typed};
 
 use crate::candidates::is_candidate;
 use crate::fitting::{behind_word, fits};
@@ -39,7 +40,7 @@ fn meant<C: Commands>(
     slot: Token<'_>,
     noun: &[&[u8]],
 ) -> Result<Vec<ObjNo>, AllocError>
-    ensures { IfOk result (λ objects. objects.items ≡ filter (is_candidate (C.grammar commands.now) (C.sees commands.now) (told_token slot.entry) (map (λ word. word.now) noun.now))
+    ensures { IfOk result (λ objects. objects.items ≡ filter (is_candidate (C.grammar commands.now) (C.sees commands.now) (told_token slot.entry) (typed noun.now))
         (objects_of (C.grammar commands.now).setting)) }
 {
     let mut objects = Vec::new(alloc);
@@ -59,7 +60,7 @@ fn listed<C: Commands>(
     slot: Token<'_>,
     phrase: &[&[u8]],
 ) -> Result<Vec<ObjNo>, AllocError>
-    ensures { IfOk result (λ objects. objects.items ≡ candidates (C.grammar commands.now) (C.sees commands.now) (told_token slot.entry) (map (λ word. word.now) phrase.now)) }
+    ensures { IfOk result (λ objects. objects.items ≡ candidates (C.grammar commands.now) (C.sees commands.now) (told_token slot.entry) (typed phrase.now)) }
 {
     Ok(meant(alloc, commands, slot, noun_of(phrase))?)
 }
@@ -93,7 +94,7 @@ pub(crate) fn slots<C: Commands>(
     words: &[&[u8]],
 ) -> Result<Option<Vec<Objects>>, AllocError>
     ensures { IfOk result (λ found. option_map (λ slots. slots.items) found
-        ≡ first_filled (C.grammar commands.now) (C.sees commands.now) (tokens_from (C.grammar commands.now) line place) (map (λ word. word.now) words.now)) }
+        ≡ first_filled (C.grammar commands.now) (C.sees commands.now) (tokens_from (C.grammar commands.now) line place) (typed words.now)) }
 {
     match next_token(commands, line, place) {
         None => Ok(no_slots(alloc, words)),
@@ -103,7 +104,7 @@ pub(crate) fn slots<C: Commands>(
 
 /// At the end of a line nothing may be left.
 fn no_slots(alloc: Global, words: &[&[u8]]) -> Option<Vec<Objects>>
-    ensures { (g : Grammar) (sees : ℕ → Bool) → option_map (λ slots. slots.items) result ≡ first_filled g sees [] (map (λ word. word.now) words.now) }
+    ensures { (g : Grammar) (sees : ℕ → Bool) → option_map (λ slots. slots.items) result ≡ first_filled g sees [] (typed words.now) }
 {
     match words {
         [] => Some(Vec::new(alloc)),
@@ -122,7 +123,7 @@ fn token_slots<C: Commands>(
     words: &[&[u8]],
 ) -> Result<Option<Vec<Objects>>, AllocError>
     ensures { IfOk result (λ found. option_map (λ slots. slots.items) found
-        ≡ first_filled (C.grammar commands.now) (C.sees commands.now) (told_token token.entry ∷ tokens_from (C.grammar commands.now) line after) (map (λ word. word.now) words.now)) }
+        ≡ filled_on (C.grammar commands.now) (C.sees commands.now) (told_token token.entry) line after (typed words.now)) }
 {
     match token {
         Token::Word(spelling) => Ok(word_slots(alloc, commands, line, spelling, after, words)?),
@@ -142,7 +143,7 @@ fn word_slots<C: Commands>(
     words: &[&[u8]],
 ) -> Result<Option<Vec<Objects>>, AllocError>
     ensures { IfOk result (λ found. option_map (λ slots. slots.items) found
-        ≡ at_words (first_filled (C.grammar commands.now) (C.sees commands.now) (tokens_from (C.grammar commands.now) line after)) (behind_word spelling.now (map (λ word. word.now) words.now))) }
+        ≡ word_filled (C.grammar commands.now) (C.sees commands.now) spelling.now line after (typed words.now)) }
 {
     match behind_word(words, spelling) {
         None => Ok(None),
@@ -161,8 +162,7 @@ fn slot_slots<C: Commands>(
     words: &[&[u8]],
 ) -> Result<Option<Vec<Objects>>, AllocError>
     ensures { IfOk result (λ found. option_map (λ slots. slots.items) found
-        ≡ slot_filled (candidates (C.grammar commands.now) (C.sees commands.now) (told_token slot.entry))
-        (first_filled (C.grammar commands.now) (C.sees commands.now) (tokens_from (C.grammar commands.now) line after)) [] (map (λ word. word.now) words.now)) }
+        ≡ slot_from (C.grammar commands.now) (C.sees commands.now) (told_token slot.entry) line after (typed words.now)) }
 {
     let mut count = 0;
     let mut rest = words;
@@ -189,8 +189,7 @@ fn phrase_slots<C: Commands>(
     behind: &[&[u8]],
 ) -> Result<Option<Vec<Objects>>, AllocError>
     ensures { IfOk result (λ found. option_map (λ slots. slots.items) found
-        ≡ in_front (candidates (C.grammar commands.now) (C.sees commands.now) (told_token slot.entry) (map (λ word. word.now) phrase.now))
-        (first_filled (C.grammar commands.now) (C.sees commands.now) (tokens_from (C.grammar commands.now) line after) (map (λ word. word.now) behind.now))) }
+        ≡ phrase_filled (C.grammar commands.now) (C.sees commands.now) (told_token slot.entry) (typed phrase.now) line after (typed behind.now)) }
 {
     if !fits(commands, line, after, behind) {
         return Ok(None);

@@ -1,7 +1,7 @@
 //! The tokens of a line, one behind the other.
-ghost use Rattle.std.specs.Prelude.{◌≡◌, [], ◌∷◌, MatchOption};
+ghost use Rattle.std.specs.Prelude.{◌≡◌, [], MatchOption};
 ghost use Rattle.command_grammar.specs.Lines.{told_token};
-ghost use Rattle.command_parser.specs.Tokens.{tokens_from};
+ghost use Rattle.command_parser.specs.Tokens.{IsNext, tokens_from};
 
 use crate::Commands;
 use command_grammar::Token;
@@ -13,7 +13,7 @@ pub(crate) fn next_token<C: Commands>(
     place: usize,
 ) -> Option<(Token<'_>, usize)>
     ensures { MatchOption result (tokens_from (C.grammar commands.now) line place ≡ [])
-        (λ next. tokens_from (C.grammar commands.now) line place ≡ told_token next.0 ∷ tokens_from (C.grammar commands.now) line next.1) }
+        (λ next. IsNext (C.grammar commands.now) line place (told_token next.0) next.1) }
 {
     if place >= commands.token_count(line) {
         return None;

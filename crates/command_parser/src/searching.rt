@@ -1,12 +1,12 @@
 //! The first way to part a command's words among the tokens of a line that leaves no slot without a candidate, and what
 //! comes of it: each slot tries the fewest words first. Nothing is listed, and no memory taken.
-ghost use Rattle.std.specs.Prelude.{◌≡◌, ◌∷◌, [], ℕ, Bool, map};
-ghost use Rattle.std.specs.Option.{option_map};
-ghost use Rattle.play_meaning.specs.Grammar.{Grammar, candidates};
-ghost use Rattle.command_parser.specs.Searching.{at_words, behind_word, first_filled, in_front, slot_filled};
-ghost use Rattle.command_parser.specs.Settling.{asks_unless, outcome_of, with_noun};
+ghost use Rattle.std.specs.Prelude.{◌≡◌, [], ℕ, Bool};
+ghost use Rattle.play_meaning.specs.Grammar.{Grammar};
+ghost use Rattle.command_parser.specs.Searching.{filled_on, first_filled, phrase_filled, slot_from, word_filled};
+ghost use Rattle.command_parser.specs.Settling.{asks_unless, comes_to, with_noun};
 ghost use Rattle.command_grammar.specs.Lines.{told_token};
 ghost use Rattle.command_parser.specs.Tokens.{tokens_from};
+ghost use Rattle.command_parser.specs.Typed.{typed};
 
 use crate::Commands;
 use crate::candidates::{are_candidates_alike, first_candidate};
@@ -60,8 +60,8 @@ pub(crate) fn search<C: Commands>(
     place: usize,
     words: &[&[u8]],
 ) -> Option<Outcome>
-    ensures { result ≡ option_map (outcome_of (C.grammar commands.now) now.now)
-        (first_filled (C.grammar commands.now) (C.sees commands.now) (tokens_from (C.grammar commands.now) line place) (map (λ word. word.now) words.now)) }
+    ensures { result ≡ comes_to (C.grammar commands.now) now.now
+        (first_filled (C.grammar commands.now) (C.sees commands.now) (tokens_from (C.grammar commands.now) line place) (typed words.now)) }
 {
     match next_token(commands, line, place) {
         None => search_end(now, words),
@@ -71,7 +71,7 @@ pub(crate) fn search<C: Commands>(
 
 /// At the end of a line nothing may be left.
 fn search_end(now: &ActionNow, words: &[&[u8]]) -> Option<Outcome>
-    ensures { (g : Grammar) (sees : ℕ → Bool) → result ≡ option_map (outcome_of g now.now) (first_filled g sees [] (map (λ word. word.now) words.now)) }
+    ensures { (g : Grammar) (sees : ℕ → Bool) → result ≡ comes_to g now.now (first_filled g sees [] (typed words.now)) }
 {
     match words {
         [] => Some(Outcome::Acts(*now)),
@@ -89,8 +89,8 @@ fn search_token<C: Commands>(
     after: usize,
     words: &[&[u8]],
 ) -> Option<Outcome>
-    ensures { result ≡ option_map (outcome_of (C.grammar commands.now) now.now)
-        (first_filled (C.grammar commands.now) (C.sees commands.now) (told_token token.entry ∷ tokens_from (C.grammar commands.now) line after) (map (λ word. word.now) words.now)) }
+    ensures { result ≡ comes_to (C.grammar commands.now) now.now
+        (filled_on (C.grammar commands.now) (C.sees commands.now) (told_token token.entry) line after (typed words.now)) }
 {
     match token {
         Token::Word(spelling) => search_word(commands, now, line, spelling, after, words),
@@ -109,8 +109,8 @@ fn search_word<C: Commands>(
     after: usize,
     words: &[&[u8]],
 ) -> Option<Outcome>
-    ensures { result ≡ option_map (outcome_of (C.grammar commands.now) now.now)
-        (at_words (first_filled (C.grammar commands.now) (C.sees commands.now) (tokens_from (C.grammar commands.now) line after)) (behind_word spelling.now (map (λ word. word.now) words.now))) }
+    ensures { result ≡ comes_to (C.grammar commands.now) now.now
+        (word_filled (C.grammar commands.now) (C.sees commands.now) spelling.now line after (typed words.now)) }
 {
     match behind_word(words, spelling) {
         None => None,
@@ -128,9 +128,8 @@ fn search_slot<C: Commands>(
     after: usize,
     words: &[&[u8]],
 ) -> Option<Outcome>
-    ensures { result ≡ option_map (outcome_of (C.grammar commands.now) now.now)
-        (slot_filled (candidates (C.grammar commands.now) (C.sees commands.now) (told_token slot.entry))
-        (first_filled (C.grammar commands.now) (C.sees commands.now) (tokens_from (C.grammar commands.now) line after)) [] (map (λ word. word.now) words.now)) }
+    ensures { result ≡ comes_to (C.grammar commands.now) now.now
+        (slot_from (C.grammar commands.now) (C.sees commands.now) (told_token slot.entry) line after (typed words.now)) }
 {
     let mut count = 0;
     let mut rest = words;
@@ -158,9 +157,8 @@ fn search_phrase<C: Commands>(
     phrase: &[&[u8]],
     behind: &[&[u8]],
 ) -> Option<Outcome>
-    ensures { result ≡ option_map (outcome_of (C.grammar commands.now) now.now)
-        (in_front (candidates (C.grammar commands.now) (C.sees commands.now) (told_token slot.entry) (map (λ word. word.now) phrase.now))
-        (first_filled (C.grammar commands.now) (C.sees commands.now) (tokens_from (C.grammar commands.now) line after) (map (λ word. word.now) behind.now))) }
+    ensures { result ≡ comes_to (C.grammar commands.now) now.now
+        (phrase_filled (C.grammar commands.now) (C.sees commands.now) (told_token slot.entry) (typed phrase.now) line after (typed behind.now)) }
 {
     if !fits(commands, line, after, behind) {
         return None;

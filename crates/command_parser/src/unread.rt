@@ -1,11 +1,12 @@
 //! What is said to a command that no line of the grammar reads.
-ghost use Rattle.std.specs.Prelude.{◌≡◌, map};
+ghost use Rattle.std.specs.Prelude.{◌≡◌};
 ghost use Rattle.std.specs.List.{list_any};
 ghost use Rattle.play_meaning.specs.Commands.{begins_so};
 ghost use Rattle.command_parser.specs.Commanding.{line_begins, line_fits, unread_by, unread_text};
 ghost use Rattle.command_parser.specs.Readings.{said_text};
 ghost use Rattle.command_grammar.specs.Lines.{told_token};
 ghost use Rattle.command_parser.specs.Tokens.{line_at};
+ghost use Rattle.command_parser.specs.Typed.{typed};
 
 use crate::fitting::fits;
 use crate::next_token::next_token;
@@ -36,7 +37,7 @@ fn line_begins<C: Commands>(commands: &C, verb: &[u8], line: u16) -> bool
 
 /// Whether a line begins with the word and has a way to part the words.
 fn line_fits<C: Commands>(commands: &C, verb: &[u8], words: &[&[u8]], line: u16) -> bool
-    ensures { result ≡ line_fits verb.now (map (λ word. word.now) words.now) (line_at (C.grammar commands.now) line) }
+    ensures { result ≡ line_fits verb.now (typed words.now) (line_at (C.grammar commands.now) line) }
 {
     line_begins(commands, verb, line) && fits(commands, line, 0, words)
 }
@@ -56,7 +57,7 @@ fn any_begins<C: Commands>(commands: &C, verb: &[u8]) -> bool
 
 /// Whether any line begins with the word and has a way to part the words.
 fn any_fits<C: Commands>(commands: &C, verb: &[u8], words: &[&[u8]]) -> bool
-    ensures { result ≡ list_any (line_fits verb.now (map (λ word. word.now) words.now)) (C.grammar commands.now).lines }
+    ensures { result ≡ list_any (line_fits verb.now (typed words.now)) (C.grammar commands.now).lines }
 {
     let count = commands.line_count();
     for line in 0..count {
@@ -82,7 +83,7 @@ fn unread_by(known: bool, fitting: bool) -> Said
 
 /// What is said to the words of a command that no line reads.
 pub(crate) fn unread<C: Commands>(commands: &C, words: &[&[u8]]) -> Said
-    ensures { said_text result ≡ unread_text (C.grammar commands.now) (map (λ word. word.now) words.now) }
+    ensures { said_text result ≡ unread_text (C.grammar commands.now) (typed words.now) }
 {
     match words {
         [] => Said::NoVerb,

@@ -1,4 +1,3 @@
-mod ObjectsMeant
 mod Parting
 mod Reaching
 pub mod Sound

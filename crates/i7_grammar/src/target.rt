@@ -1,16 +1,14 @@
 //! What the words behind `as` mean: an action by its name, or else an object.
-ghost use Rattle.std.specs.Prelude.{◌≡◌, ◌≤◌, ◌+◌, None, length, option_map, IfOk};
-ghost use Rattle.i7_conditions.specs.Marks.{marks_of};
-ghost use Rattle.i7_conditions.specs.Objects.{found_meant};
-ghost use Rattle.i7_grammar.specs.Targets.{action_from, object_by, object_of, target_of};
-ghost use Rattle.i7_grammar.specs.Knowns.{known_of, object_found, scope_among};
+ghost use Rattle.std.specs.Prelude.{◌≡◌, ◌≤◌, ◌+◌, length, IfOk};
+ghost use Rattle.i7_conditions.specs.NamesOf.{meanings_of};
+ghost use Rattle.i7_grammar.specs.Targets.{action_from, object_by, object_meant, object_of, player_by, target_of};
+ghost use Rattle.i7_grammar.specs.Knowns.{known_of};
 
 use crate::known::Known;
 use i7_actions::{Action, NounCount, is_name};
-use i7_conditions::{Found, Names, Scope, object_of};
-use play_meaning::tree::Referent;
+use i7_conditions::{Meaning, Names, key_of};
 use std::alloc::{AllocError, Global};
-use world_meaning::TextBytes;
+use world_meaning::{TextBytes, is_spelled};
 
 /// What words mean.
 #[derive(Clone, Copy, Debug, PartialEq, Eq)]
@@ -38,31 +36,35 @@ fn action_named(actions: &[Action], words: &[TextBytes]) -> Option<Target>
     None
 }
 
-/// The object that is found, if it is one by its name.
-fn object_found(found: &Found<Referent>) -> Option<u16>
-    ensures { result ≡ object_found (found_meant found.now) }
+/// The object that a name stands for.
+fn object_meant(meaning: &Option<Meaning>) -> Option<u16>
+    ensures { result ≡ object_meant meaning.now }
 {
-    match found {
-        Found::Read(Referent::The(object)) => Some(object.get()),
+    match meaning {
+        Some(Meaning::Object(object)) => Some(object.get()),
         _ => None,
     }
 }
 
-/// The object that words mean by its name.
-#[tactic(auto, using(crate::proofs::ObjectsMeant::object_steps))]
-fn object_named(
-    alloc: Global,
-    names: &Names,
-    words: &[TextBytes],
-) -> Result<Option<u16>, AllocError>
-    ensures { IfOk result (λ object. object ≡ object_by (marks_of (scope_among names.now) words.now)) }
+/// The player, by the word for him.
+fn player_by(key: &[u8]) -> Option<u16>
+    ensures { result ≡ player_by key.now }
 {
-    let scope = Scope {
-        names,
-        repeats: &[],
-    };
-    let found = object_of(alloc, &scope, words)?;
-    Ok(object_found(&found))
+    if is_spelled(key, b"player") {
+        Some(0)
+    } else {
+        None
+    }
+}
+
+/// The object of a name in small letters.
+fn object_by(names: &Names, key: &[u8]) -> Option<u16>
+    ensures { result ≡ object_by (meanings_of names.now) key.now }
+{
+    match object_meant(&names.meaning(key)) {
+        Some(object) => Some(object),
+        None => player_by(key),
+    }
 }
 
 /// One of so many objects.
@@ -93,7 +95,8 @@ pub fn target_of(
     match action_named(known.actions, words) {
         Some(target) => Ok(Some(target)),
         None => {
-            let object = object_named(alloc, known.names, words)?;
+            let key = key_of(alloc, words)?;
+            let object = object_by(known.names, key.as_slice());
             Ok(object_there(known.objects.len(), object))
         }
     }

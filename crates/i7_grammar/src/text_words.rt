@@ -1,7 +1,8 @@
 //! The words of a text: what stands between blanks.
 ghost use Rattle.std.specs.Prelude.{◌≡◌, ◌<◌, ◌≤◌, ◌++◌, length, map, IfOk, MatchOption, OnOk};
-ghost use Rattle.std.specs.List.{after_first, before_first, position_or_len};
+ghost use Rattle.std.specs.List.{position_or_len};
 ghost use Rattle.i7_grammar.specs.TextTokens.{is_blank, word_run, words_among};
+ghost use Rattle.i7_sentences.specs.BracketedWords.{IsPartedAt};
 
 use std::alloc::{AllocError, Global};
 
@@ -22,11 +23,7 @@ fn word_len(bytes: &[u8]) -> usize
 
 /// The bytes in front of the first blank, and those behind it; none where there is none.
 fn parted_at_blank(bytes: &[u8]) -> Option<(&[u8], &[u8])>
-    ensures { MatchOption result (length bytes.now ≤ position_or_len is_blank bytes.now) (λ parts.
-        (position_or_len is_blank bytes.now < length bytes.now)
-        × (parts.0.now ≡ before_first is_blank bytes.now)
-        × (parts.1.now ≡ after_first is_blank bytes.now)
-        × (length parts.1.now < length bytes.now)) }
+    ensures { IsPartedAt is_blank bytes.now result }
 {
     let (front, rest) = bytes.split_at(word_len(bytes));
     match rest {

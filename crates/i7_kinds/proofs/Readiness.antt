@@ -1,12 +1,12 @@
 -- Where no refusal stands, objects have kinds and places of small numbers.
 use Rattle.std.proofs.Common.{◌≡◌, ℕ, suc, ◌+◌, ◌≤◌, List, [], ◌∷◌, length, map, Option, sym, ap, ◌∙◌, subst, arith}
 use Rattle.std.specs.Prelude.{None}
-use Rattle.i7_kinds.specs.Bounds.{AreSmallKnowns, AreSmallPlaces, AreWithin, LeadWithin}
+use Rattle.i7_kinds.specs.Bounds.{AreSmallKnowns, AreWithin}
 use Rattle.i7_kinds.specs.Demands.{descriptions_of, wrong_kind}
 use Rattle.i7_kinds.specs.Doors.{doors_of}
-use Rattle.i7_kinds.specs.KindClaims.{AreSmallKinds, declared_by, flags_by, givens_by, kind_names, kind_too_many, numbers_by, parents_of, unknown_kind}
+use Rattle.i7_kinds.specs.KindClaims.{declared_by, flags_by, givens_by, kind_names, kind_too_many, numbers_by, parents_of, unknown_kind}
 use Rattle.i7_kinds.specs.Knowns.{Scope, kind_of, known_at, knowns_of, off_path}
-use Rattle.i7_kinds.specs.Places.{places_by}
+use Rattle.i7_kinds.specs.Ready.{IsReady}
 use Rattle.i7_claims.specs.Scans.{earlier}
 use Rattle.i7_claims.specs.Sorts.{name_too_many, names_as, property_names, too_many_as}
 use Rattle.i7_kinds.specs.Grants.{built_in_bases, givens_of}
@@ -16,7 +16,7 @@ use Rattle.i7_claims.specs.declared.sorts.Sort.TheVariants as sort
 use Rattle.i7_kinds.proofs.Granting.{flags_counted}
 use Rattle.i7_sentences.specs.declared.sentence.Sentence.{Sentence}
 use Rattle.i7_claims.specs.Statements.{NameAt, Named, named_by, statement_in}
-use Rattle.i7_kinds.specs.Suits.{first_room, unsuited, with_player}
+use Rattle.i7_kinds.specs.Suits.{first_room, unsuited}
 use Rattle.i7_kinds.specs.Tales.{faults_of, frame_refusal, limit_refusal, judged, refusal_of, said_by, said_in, scope_of, scope_with}
 use Rattle.i7_claims.specs.declared.claim.Claim.{Claim}
 use Rattle.i7_kinds.specs.declared.knowns.Known.{Known}
@@ -71,20 +71,8 @@ values_few claims many =
     let kinds = earlier_none (too_many_as sort.ValueKind claims) _ scenes.1 in
     kinds_few (parents_of (kind_names claims) claims) (givens_by claims) (length (flags_by claims) + length (numbers_by claims)) claims (names_as sort.ValueKind claims) kinds.1
 
--- what no refusal says of the objects
-pub record Ready (s : Scope) (knowns : List Known) (claims : List Claim) (statements : List NumberedSentence) : Type 0 where
-  pub within : LeadWithin statements
-  pub few_kinds : AreSmallKinds s.parents
-  pub few_declared : AreSmallKinds (parents_of s.kinds claims)
-  pub short : length (parents_of s.kinds claims) ≤ 100
-  pub few_flags : length (declared_by claims).flags ≤ 100
-  pub few_numbers : length (declared_by claims).numbers ≤ 100
-  pub few_values : AreFewValues (declared_by claims).values
-  pub small_kinds : AreSmallKnowns knowns
-  pub small_places : AreSmallPlaces (with_player (places_by s.objects claims) (first_room s.parents knowns))
-
 ready : (claims : List Claim) (keys : List (List ℕ)) (statements : List NumberedSentence) (mentions : List NameAt) → AreWithin (length keys) statements → length keys ≡ 13 + length mentions
-    → refusal_of (scope_of claims keys) (knowns_of (scope_of claims keys) claims) claims statements mentions ≡ None → Ready (scope_of claims keys) (knowns_of (scope_of claims keys) claims) claims statements
+    → refusal_of (scope_of claims keys) (knowns_of (scope_of claims keys) claims) claims statements mentions ≡ None → IsReady (scope_of claims keys) (knowns_of (scope_of claims keys) claims) claims statements
 ready claims keys statements mentions within counted none =
     let s = scope_of claims keys in
     let knowns = knowns_of s claims in
@@ -109,16 +97,16 @@ ready claims keys statements mentions within counted none =
     }
 
 ready_by : (s : Scope) (claims : List Claim) (statements : List NumberedSentence) (mentions : List NameAt) → s ≡ scope_of claims s.objects → AreWithin (length s.objects) statements → length s.objects ≡ 13 + length mentions
-    → refusal_of s (knowns_of s claims) claims statements mentions ≡ None → Ready s (knowns_of s claims) claims statements
+    → refusal_of s (knowns_of s claims) claims statements mentions ≡ None → IsReady s (knowns_of s claims) claims statements
 ready_by s claims statements mentions same within counted =
-    subst (λ (x : Scope). refusal_of x (knowns_of x claims) claims statements mentions ≡ None → Ready x (knowns_of x claims) claims statements) (sym same) (ready claims s.objects statements mentions within counted)
+    subst (λ (x : Scope). refusal_of x (knowns_of x claims) claims statements mentions ≡ None → IsReady x (knowns_of x claims) claims statements) (sym same) (ready claims s.objects statements mentions within counted)
 
 -- by what is equal to the statements and to what is known
 pub ready_at : (s : Scope) (claims : List Claim) (statements stated : List NumberedSentence) (mentions : List NameAt) (knowns : List Known) → stated ≡ statements → knowns ≡ knowns_of s claims → s ≡ scope_of claims s.objects → AreWithin (length s.objects) statements
-    → length s.objects ≡ 13 + length mentions → refusal_of s knowns claims stated mentions ≡ None → Ready s knowns claims stated
+    → length s.objects ≡ 13 + length mentions → refusal_of s knowns claims stated mentions ≡ None → IsReady s knowns claims stated
 ready_at s claims statements stated mentions knowns same_statements same_knowns same within counted none =
-    subst (λ (k : List Known). refusal_of s k claims stated mentions ≡ None → Ready s k claims stated) (sym same_knowns)
-    (subst (λ (w : List NumberedSentence). refusal_of s (knowns_of s claims) claims w mentions ≡ None → Ready s (knowns_of s claims) claims w) (sym same_statements) (ready_by s claims statements mentions same within counted))
+    subst (λ (k : List Known). refusal_of s k claims stated mentions ≡ None → IsReady s k claims stated) (sym same_knowns)
+    (subst (λ (w : List NumberedSentence). refusal_of s (knowns_of s claims) claims w mentions ≡ None → IsReady s (knowns_of s claims) claims w) (sym same_statements) (ready_by s claims statements mentions same within counted))
     none
 
 -- the names and the statements of a source

@@ -14,6 +14,7 @@ pub mod LongNames
 pub mod Making
 pub mod Places
 pub mod PropertiesKept
+pub mod Ready
 pub mod RefusalsShown
 pub mod StatedWays
 pub mod Suits

@@ -230,6 +230,15 @@ scope_with kinds parents claims keys = record {
 abbrev pub scope_of : List Claim → List (List ℕ) → Scope
 scope_of claims keys = scope_with (kind_names claims) (parents_of (kind_names claims) claims) claims keys
 
+-- a value of an object, a usual one, or one of a variable that isn't the first
+abbrev pub any_value_twice : Scope → List Claim → Option ℕ
+any_value_twice s claims = earlier (value_twice Objects s claims) (earlier (value_twice Kinds s claims) (value_twice Variables s claims))
+
+-- a second name, list of rules or of values, description or value
+abbrev pub said_twice : Scope → List Claim → List Description → Option ℕ
+said_twice s claims descriptions =
+    earlier (name_twice claims) (earlier (book_twice claims) (earlier (list_twice claims) (earlier (second_description descriptions) (any_value_twice s claims))))
+
 -- what sentences may not say together, by the lowest lines: C9 of a name that stands for two things, of a rulebook's that
 -- is another's, of a second list of values, of a second description and of another value of a property or a variable; C7 of a kind that isn't
 -- there and of words that name nothing; C11 of a cycle of kinds or of holders; C8 of demands off one path and of what the kinds don't allow; C10 of an exit's or an object's second place, and of a door
@@ -237,8 +246,7 @@ scope_of claims keys = scope_with (kind_names claims) (parents_of (kind_names cl
 -- values that is too long; C16 of a kind of value without values
 abbrev pub faults_of : Scope → List Known → List Claim → List NumberedSentence → Faults
 faults_of s knowns claims statements = record {
-  twice = earlier (name_twice claims) (earlier (book_twice claims) (earlier (list_twice claims)
-      (earlier (second_description (descriptions_of s.parents knowns statements)) (earlier (value_twice Objects s claims) (earlier (value_twice Kinds s claims) (value_twice Variables s claims))))));
+  twice = said_twice s claims (descriptions_of s.parents knowns statements);
   unknown = unknown_kind s.kinds claims;
   cycle = earlier (kind_cycle s.kinds claims) (holder_cycle s.objects claims);
   wrong = earlier (off_path s claims) (earlier (unsuited s knowns claims) (wrong_kind s.parents knowns statements));
@@ -287,11 +295,14 @@ made_of s knowns claims statements = record {
   statements = statements;
 }
 
+-- the tale, where no refusal stands
+abbrev pub tale_made : Scope → List Known → List Claim → List NumberedSentence → List NameAt → Tale
+tale_made s knowns claims statements mentions = record { declared = declared_by claims; objects = objects_of (made_of s knowns claims statements) 0 (entries_of mentions) }
+
 -- the tale, unless a refusal stands
 abbrev pub judged_by : Scope → List Known → List Claim → List NumberedSentence → List NameAt → Result Tale Fault
 judged_by s knowns claims statements mentions =
-    or_refused (refusal_of s knowns claims statements mentions)
-    (record { declared = declared_by claims; objects = objects_of (made_of s knowns claims statements) 0 (entries_of mentions) })
+    or_refused (refusal_of s knowns claims statements mentions) (tale_made s knowns claims statements mentions)
 
 abbrev pub judged : Scope → List Claim → List NumberedSentence → List NameAt → Result Tale Fault
 judged s claims statements mentions = judged_by s (knowns_of s claims) claims statements mentions

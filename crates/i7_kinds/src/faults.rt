@@ -1,6 +1,6 @@
 //! The lines at which sentences say together what they may not.
 ghost use Rattle.std.specs.Prelude.{◌≡◌, IfOk};
-ghost use Rattle.i7_kinds.specs.Demands.{descriptions_of, second_description, second_target, wrong_kind};
+ghost use Rattle.i7_kinds.specs.Demands.{descriptions_of, second_target, wrong_kind};
 ghost use Rattle.i7_kinds.specs.Described.{descriptions_in};
 ghost use Rattle.i7_kinds.specs.Doors.{door_twice};
 ghost use Rattle.i7_kinds.specs.KindClaims.{kind_cycle};
@@ -11,7 +11,7 @@ ghost use Rattle.i7_claims.specs.Scans.{earlier};
 ghost use Rattle.i7_claims.specs.Sorts.{name_too_many};
 ghost use Rattle.i7_kinds.specs.StatedWays.{stated};
 ghost use Rattle.i7_kinds.specs.Suits.{unsuited};
-ghost use Rattle.i7_kinds.specs.Tales.{faults_of};
+ghost use Rattle.i7_kinds.specs.Tales.{faults_of, said_twice};
 ghost use Rattle.i7_kinds.specs.Values.{value_twice};
 ghost use Rattle.i7_kinds.specs.declared.values.Bearer.TheVariants.{Objects, Kinds, Variables};
 
@@ -73,8 +73,7 @@ fn twice(
     claims: &[Claim],
     descriptions: &Descriptions<'_>,
 ) -> Result<Option<u32>, AllocError>
-    ensures { IfOk result (λ line. line ≡ earlier (name_twice claims.now) (earlier (book_twice claims.now) (earlier (list_twice claims.now)
-        (earlier (second_description (descriptions_in descriptions.now)) (earlier (value_twice Objects scope.now claims.now) (earlier (value_twice Kinds scope.now claims.now) (value_twice Variables scope.now claims.now))))))) }
+    ensures { IfOk result (λ line. line ≡ said_twice scope.now claims.now (descriptions_in descriptions.now)) }
 {
     let name = name_twice(alloc, claims)?;
     let book = book_twice(alloc, claims)?;

@@ -1,16 +1,16 @@
 //! The tale of a source's sentences, or the refusal that stands.
-ghost use Rattle.std.specs.Prelude.{◌≡◌, ◌⊎◌, ◌+◌, ◌≤◌, length, Ok, Err, IfErr, IfOk};
+ghost use Rattle.std.specs.Prelude.{◌≡◌, ◌⊎◌, ◌+◌, length, Ok, Err, IfErr, IfOk};
 ghost use Rattle.world_meaning.specs.Faults.{out_of_memory};
-ghost use Rattle.i7_kinds.specs.Bounds.{AreSmallKnowns, AreSmallPlaces, AreWithin, LeadWithin};
+ghost use Rattle.i7_kinds.specs.Bounds.{AreSmallPlaces, AreWithin};
 ghost use Rattle.i7_kinds.specs.Demands.{descriptions_of};
 ghost use Rattle.i7_kinds.specs.Described.{descriptions_in};
-ghost use Rattle.i7_kinds.specs.KindClaims.{AreSmallKinds, declared_by, kind_names, parents_of};
-ghost use Rattle.i7_kinds.specs.Knowns.{knowns_of, off_path as off_path_of};
+ghost use Rattle.i7_kinds.specs.KindClaims.{declared_by, kind_names, parents_of};
+ghost use Rattle.i7_kinds.specs.Knowns.{off_path as off_path_of};
 ghost use Rattle.i7_kinds.specs.Places.{places_by};
 ghost use Rattle.i7_kinds.specs.StatedWays.{stated};
 ghost use Rattle.i7_kinds.specs.Suits.{first_room, with_player};
-ghost use Rattle.i7_kinds.specs.Tales.{entries_of, frame_refusal, judged, limit_refusal, made_of, no_room, objects_of, refusal_at, refusal_of, said_by, said_in, scope_of, tale_said};
-ghost use Rattle.i7_kinds.specs.ValueKinds.{AreFewValues};
+ghost use Rattle.i7_kinds.specs.Tales.{entries_of, frame_refusal, judged, limit_refusal, made_of, no_room, objects_of, refusal_at, refusal_of, said_by, said_in, scope_of, tale_made, tale_said};
+ghost use Rattle.i7_kinds.specs.Ready.{IsReady};
 ghost use Rattle.i7_claims.specs.Statements.{named_by};
 ghost use Rattle.i7_claims.specs.Views.{mentions_of, names_of};
 
@@ -155,15 +155,9 @@ fn objects_meant(
     ways: &Ways<'_>,
     declared: &Declared,
 ) -> Result<Listed<Object>, AllocError>
+    requires ready { IsReady scope.now knowns.now claims.now (stated ways.now) }
     requires described { descriptions_in descriptions.now ≡ descriptions_of scope.now.parents knowns.now (stated ways.now) }
-    requires within { LeadWithin (stated ways.now) }
-    requires few_kinds { AreSmallKinds scope.now.parents }
-    requires small_kinds { AreSmallKnowns knowns.now }
     requires declared { declared.now ≡ declared_by claims.now }
-    requires few_flags { length (declared_by claims.now).flags ≤ 100 }
-    requires few_numbers { length (declared_by claims.now).numbers ≤ 100 }
-    requires few_values { AreFewValues (declared_by claims.now).values }
-    requires small_places { AreSmallPlaces (with_player (places_by scope.now.objects claims.now) (first_room scope.now.parents knowns.now)) }
     ensures { IfOk result (λ objects. objects ≡ objects_of (made_of scope.now knowns.now claims.now (stated ways.now)) 0 (entries_of (mentions_of mentions.now))) }
 {
     let parents = kind_nos(alloc, scope.parents())?;
@@ -184,6 +178,35 @@ fn objects_meant(
         ways,
     };
     objects_of(alloc, mentions, &makings)
+}
+
+/// The tale of claims and statements that no refusal stands against.
+fn tale_made(
+    alloc: Global,
+    scope: &Scope<'_>,
+    knowns: &[Known],
+    claims: &[Claim],
+    mentions: &[Mention<'_>],
+    descriptions: &Descriptions<'_>,
+    ways: &Ways<'_>,
+) -> Result<Tale, AllocError>
+    requires ready { IsReady scope.now knowns.now claims.now (stated ways.now) }
+    requires scope { scope.now ≡ scope_of claims.now scope.now.objects }
+    requires described { descriptions_in descriptions.now ≡ descriptions_of scope.now.parents knowns.now (stated ways.now) }
+    ensures { IfOk result (λ tale. tale ≡ tale_made scope.now knowns.now claims.now (stated ways.now) (mentions_of mentions.now)) }
+{
+    let declared = declared_by(alloc, scope.kinds(), claims)?;
+    let objects = objects_meant(
+        alloc,
+        scope,
+        knowns,
+        claims,
+        mentions,
+        descriptions,
+        ways,
+        &declared,
+    )?;
+    Ok(Tale { declared, objects })
 }
 
 /// The tale of these claims and statements, or the refusal that stands.
@@ -208,11 +231,8 @@ fn judged(
     if let Some(fault) = refused {
         return Ok(Err(fault));
     }
-    let declared = declared_by(alloc, scope.kinds(), claims)?;
-    let objects = objects_meant(
-        alloc, scope, known, claims, mentions, &texts, &ways, &declared,
-    )?;
-    Ok(Ok(Tale { declared, objects }))
+    let tale = tale_made(alloc, scope, known, claims, mentions, &texts, &ways)?;
+    Ok(Ok(tale))
 }
 
 /// What the sentences mean, where the kinds have these names and these kinds above them.

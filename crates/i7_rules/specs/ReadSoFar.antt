@@ -8,6 +8,7 @@ use Rattle.i7_conditions.specs.declared.found.Found.{Found}
 use Rattle.i7_conditions.specs.declared.found.Found.TheVariants.{Read, TooMany, Unread}
 use Rattle.i7_conditions.specs.declared.line.Line.{Line}
 use Rattle.i7_conditions.specs.declared.line.Step.{Step}
+use Rattle.i7_phrases.specs.Around.{Open, open_behind}
 use Rattle.i7_rules.specs.Bodies.{AreLines, AreUnderstood, IsOverAt, IsUnknown}
 use Rattle.i7_rules.specs.Knowns.{Known}
 use Rattle.i7_rules.specs.declared.body.BodyRead.{BodyRead}
@@ -47,6 +48,10 @@ IsSoFar k before (Over line) = AreUnderstood k before × IsOverAt k before line
 abbrev pub IsReadOn : Known → List RulePhrase → RulePhrase → Option State → Type 0
 IsReadOn k before p None = AreUnderstood k before × IsUnknown k before p
 IsReadOn k before p (Some next) = IsSoFar k (p ∷ before) next
+
+-- whatever was read before, with these loops around: one phrase more leads from the one state to the other
+abbrev pub ReadsOn : Known → Open → State → RulePhrase → Option State → Type 0
+ReadsOn k around state p next = (before : List RulePhrase) → around ≡ open_behind before → IsSoFar k before state → IsReadOn k before p next
 
 -- what a body is found to be whose lines were read
 abbrev pub IsEnded : SoFar → BodyRead → Type 0

@@ -1,10 +1,9 @@
 //! The body that the phrases of a rule are (*Writing with Inform*, 11.5 to 11.9).
-ghost use Rattle.std.specs.Prelude.{◌≡◌, List, IfOk, OnOk, option_map};
-ghost use Rattle.i7_phrases.specs.Around.{around_of, open_behind, passed};
+ghost use Rattle.std.specs.Prelude.{◌≡◌, IfOk, OnOk, option_map};
+ghost use Rattle.i7_phrases.specs.Around.{around_of, passed};
 ghost use Rattle.i7_rules.specs.Bodies.{IsBodyRead};
 ghost use Rattle.i7_rules.specs.Knowns.{known_of};
-ghost use Rattle.i7_rules.specs.ReadSoFar.{IsEnded, IsReadOn, IsSoFar, over_at, state_of, with_found, with_line};
-ghost use Rattle.i7_sentences.specs.declared.rule.RulePhrase.{RulePhrase as Phrases};
+ghost use Rattle.i7_rules.specs.ReadSoFar.{IsEnded, over_at, state_of, with_found, with_line, ReadsOn};
 
 use crate::known::Known;
 use crate::step::step_of;
@@ -88,8 +87,7 @@ fn read_on(
     so_far: SoFar,
     phrase: &RulePhrase,
 ) -> Result<Option<SoFar>, AllocError>
-    ensures read { IfOk result (λ next. (before : List Phrases) → around_of around.old ≡ open_behind before → IsSoFar (known_of known.now) before (state_of so_far)
-        → IsReadOn (known_of known.now) before phrase.now (option_map state_of next)) }
+    ensures read { IfOk result (λ next. ReadsOn (known_of known.now) (around_of around.old) (state_of so_far) phrase.now (option_map state_of next)) }
     ensures around { OnOk result (around_of around.new ≡ passed phrase.now (around_of around.old)) }
 {
     open_repeats_stand_around();

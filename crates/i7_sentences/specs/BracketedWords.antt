@@ -1,6 +1,7 @@
 -- The words between the brackets of a text.
-use Rattle.std.specs.Prelude.{ℕ, Bool, not, ◌==◌, List, [], ◌∷◌, map}
-use Rattle.std.specs.List.{after_first, list_any, slice_split}
+use Rattle.std.specs.Prelude.{◌≡◌, ◌<◌, ◌≤◌, ℕ, Bool, not, ◌==◌, List, [], ◌∷◌, length, map, MatchOption, Option}
+use Rattle.std.specs.Borrow.{Bor}
+use Rattle.std.specs.List.{after_first, before_first, list_any, position_or_len, slice_split}
 use Rattle.i7_lexer.specs.Bytes.{is_letter}
 use Rattle.i7_sentences.specs.Literals.{is_out_of_range}
 
@@ -32,3 +33,11 @@ has_bad_word bytes = list_any is_out_of_range (words_in bytes)
 -- a literal out of range stands between the brackets of a text
 unfoldable pub has_bad_bracket : List ℕ → Bool
 has_bad_bracket text = list_any has_bad_word (bracketed text)
+
+-- bytes are parted at the first that passes: those in front of it, and those behind it; none does, and they aren't parted
+abbrev pub IsPartedAt : (ℕ → Bool) → List ℕ → Option (Bor (List ℕ) × Bor (List ℕ)) → Type 0
+IsPartedAt passes bytes parted = MatchOption parted (length bytes ≤ position_or_len passes bytes) (λ parts.
+    (position_or_len passes bytes < length bytes)
+    × (parts.0.now ≡ before_first passes bytes)
+    × (parts.1.now ≡ after_first passes bytes)
+    × (length parts.1.now < length bytes))

@@ -1,6 +1,6 @@
 -- Fitting from left to right: each letter ends at the nearest place from which the pieces behind it
 -- can fit. The places are told beforehand, from the words' end and from the last piece.
-use Rattle.std.specs.Prelude.{not, ◌≡◌, ℕ, ◌-◌, Bool, true, false, ◌&&◌, ◌||◌, List, [], ◌∷◌, ◌++◌, length, take, drop, get_or, Option, Some, None, is_some, option_map, if◌then◌else◌}
+use Rattle.std.specs.Prelude.{not, ◌≡◌, ℕ, ◌-◌, Bool, true, false, ◌&&◌, ◌||◌, List, [], ◌∷◌, ◌++◌, length, map, take, drop, get_or, Option, Some, None, is_some, option_map, if◌then◌else◌}
 use Rattle.std.specs.List.{list_any}
 use Rattle.i7_lexer.specs.declared.token.Token.{Token}
 use Rattle.i7_sentences.specs.Keywords.{is_among, is_sign}
@@ -180,6 +180,10 @@ preferred (Some first) (Some later) = if are_shorter later.letters first.letters
 abbrev pub best_fit : List Variant → List Token → Option Found
 best_fit [] tokens = None
 best_fit (variant ∷ variants) tokens = preferred (found_as variant (first_fit variant.pieces tokens)) (best_fit variants tokens)
+
+-- rows of a table that tell variants of which the best fit is the same
+abbrev pub FitAlike : {R : Type 0} → List R → List R → (R → Variant) → List Token → Type 0
+FitAlike rows others variant_of tokens = best_fit (map variant_of rows) tokens ≡ best_fit (map variant_of others) tokens
 
 abbrev pub or_later : Option Found → Option Found → Option Found
 or_later None later = later

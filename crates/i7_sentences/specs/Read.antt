@@ -34,11 +34,15 @@ abbrev pub plain_heard : ℕ → Bool → Option Assertion → Heard
 plain_heard line is_reserved None = Unread line
 plain_heard line is_reserved (Some said) = named_heard line is_reserved said
 
+-- what it says by this fit
+abbrev pub plain_found : ℕ → List Words → Variant → List (List Token) → Heard
+plain_found line kinds variant letters = plain_heard line (has_reserved_among variant.pieces letters) (assertion_of kinds variant.form letters)
+
 -- what a sentence says that is read by this variant of a form, where these kinds of value are declared
 abbrev pub heard_by : List Words → List Token → Variant → List (List Token) → Heard
 heard_by kinds tokens variant letters =
     if is_rule_form variant.form then rule_heard tokens
-    else plain_heard (line_in tokens) (has_reserved_among variant.pieces letters) (assertion_of kinds variant.form letters)
+    else plain_found (line_in tokens) kinds variant letters
 
 abbrev pub heard_found : List Words → List Token → Option Found → Heard
 heard_found kinds tokens None = Unread (line_in tokens)

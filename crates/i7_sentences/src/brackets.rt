@@ -1,7 +1,7 @@
 //! The literals between the brackets of a text.
 ghost use Rattle.std.specs.Prelude.{◌≡◌, ◌<◌, ◌≤◌, [], ◌∷◌, length, MatchOption};
-ghost use Rattle.std.specs.List.{after_first, before_first, list_any, position_or_len};
-ghost use Rattle.i7_sentences.specs.BracketedWords.{bracketed, has_bad_bracket, has_bad_word, is_byte, is_gap};
+ghost use Rattle.std.specs.List.{after_first, before_first, position_or_len};
+ghost use Rattle.i7_sentences.specs.BracketedWords.{bracketed, has_bad_bracket, has_bad_word, is_byte, is_gap, IsPartedAt};
 
 use crate::literal::is_out_of_range;
 use i7_lexer::is_letter;
@@ -16,11 +16,7 @@ fn place_of(byte: u8, bytes: &[u8]) -> usize
 
 /// The bytes in front of the first such byte, and those behind it; none where there is none.
 pub fn parted_at(byte: u8, bytes: &[u8]) -> Option<(&[u8], &[u8])>
-    ensures { MatchOption result (length bytes.now ≤ position_or_len (is_byte byte) bytes.now) (λ parts.
-        (position_or_len (is_byte byte) bytes.now < length bytes.now)
-        × (parts.0.now ≡ before_first (is_byte byte) bytes.now)
-        × (parts.1.now ≡ after_first (is_byte byte) bytes.now)
-        × (length parts.1.now < length bytes.now)) }
+    ensures { IsPartedAt (is_byte byte) bytes.now result }
 {
     let (front, rest) = bytes.split_at(place_of(byte, bytes));
     match rest {

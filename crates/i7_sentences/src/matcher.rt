@@ -4,6 +4,7 @@ ghost use Rattle.std.specs.Prelude.{◌≡◌, true, ◌≤◌, ◌++◌, ◌∷
 ghost use Rattle.std.specs.List.{list_any};
 ghost use Rattle.i7_sentences.specs.Signs.{is_unmarked, table_of};
 ghost use Rattle.i7_sentences.specs.Matching.{behind_word, can_begin, can_fit, can_take, columns_of, first_column, first_fit, is_kept, is_missing, IsEndOf, left_by, letters_with, looked, nearest};
+ghost use Rattle.i7_sentences.specs.Found.{letters_in};
 
 use crate::class::State;
 use crate::column_stack::ColumnStack;
@@ -116,8 +117,8 @@ fn take_piece<'a, 'b>(
     ensures suffix { IfOk result (λ behind. IfSome behind (λ others. IsEndOf others.now tokens.now)) }
     ensures none { IfOk result (λ behind. IfNone behind (first_fit (piece ∷ after.now) rest.now ≡ None)) }
     ensures some { IfOk result (λ behind. IfSome behind (λ others.
-        letters_with (map (λ letter. letter.now) letters.new.items) after.now others.now
-        ≡ letters_with (map (λ letter. letter.now) letters.old.items) (piece ∷ after.now) rest.now)) }
+        letters_with (letters_in letters.new.items) after.now others.now
+        ≡ letters_with (letters_in letters.old.items) (piece ∷ after.now) rest.now)) }
 {
     match left_behind(piece, after, tokens, rest, told)? {
         None => Ok(None),
@@ -192,7 +193,7 @@ fn fits_from<'a, 'b>(
 ) -> Result<bool, AllocError>
     requires told { told.old ≡ columns_of pieces.now tokens.now }
     requires suffix { IsEndOf rest.now tokens.now }
-    ensures fits { IfOk result (λ fits. IsTrue fits → letters_with (map (λ letter. letter.now) letters.old.items) pieces.now rest.now ≡ Some (map (λ letter. letter.now) letters.new.items)) }
+    ensures fits { IfOk result (λ fits. IsTrue fits → letters_with (letters_in letters.old.items) pieces.now rest.now ≡ Some (letters_in letters.new.items)) }
     ensures unfit { IfOk result (λ fits. fits ≡ false → first_fit pieces.now rest.now ≡ None) }
 {
     match pieces {

@@ -1,17 +1,18 @@
 //! Reading a source: cut it into sentences, understand each, test the names.
-ghost use Rattle.std.specs.Prelude.{◌≡◌, ◌≢◌, Some, Ok, Err, Result, List, IfErr, IfOk, MatchOption, MatchResult, map};
+ghost use Rattle.std.specs.Prelude.{◌≡◌, ◌≢◌, Some, Ok, Err, Result, IfErr, IfOk, MatchOption, MatchResult};
 ghost use Rattle.std.specs.List.{filter_map};
 ghost use Rattle.world_meaning.specs.Faults.{out_of_memory};
 ghost use Rattle.i7_sentences.specs.Assertions.{assertion_of};
-ghost use Rattle.i7_sentences.specs.Cuts.{line_of, parts_of};
+ghost use Rattle.i7_sentences.specs.Cuts.{parts_of};
 ghost use Rattle.i7_sentences.specs.KindsOfValue.{kinds_of_value};
 ghost use Rattle.i7_sentences.specs.Lowest.{lowest};
 ghost use Rattle.i7_sentences.specs.Pieces.{piece_of, pieces_of};
-ghost use Rattle.i7_sentences.specs.Read.{heard_found, heard_in, named_heard, plain_heard, read_of, reserved_in, sentence_in, unread_in};
+ghost use Rattle.i7_sentences.specs.Read.{heard_found, heard_in, named_heard, plain_heard, read_of, reserved_in, sentence_in, unread_in, plain_found};
 ghost use Rattle.i7_sentences.specs.Reserved.{has_reserved_among};
 ghost use Rattle.i7_sentences.specs.Sources.{HasSentences, IsRefused};
 ghost use Rattle.i7_sentences.specs.Stretches.{bad_literal_in, bad_literal_of, read_stretches};
 ghost use Rattle.i7_sentences.specs.ValueFits.{read_with};
+ghost use Rattle.i7_sentences.specs.Found.{found_in};
 
 use crate::assertion::assertion_of;
 use crate::body::line_in;
@@ -69,9 +70,7 @@ fn plain_heard(
     line: u32,
     reading: &Reading<'_, '_>,
 ) -> Result<Heard, AllocError>
-    ensures { IfOk result (λ heard. heard ≡ plain_heard line
-        (has_reserved_among reading.now.pieces.now (map (λ letter. letter.now) reading.now.letters.items))
-        (assertion_of kinds.now reading.now.form (map (λ letter. letter.now) reading.now.letters.items))) }
+    ensures { IfOk result (λ heard. heard ≡ plain_found line kinds.now (found_in reading.now).variant (found_in reading.now).letters) }
 {
     let letters = reading.letters.as_slice();
     match assertion_of(alloc, kinds, reading.form, letters)? {

@@ -2,7 +2,7 @@
 ghost use Rattle.std.specs.Prelude.{◌≡◌, ◌≤◌, length, map, option_map, true, IfOk};
 ghost use Rattle.std.specs.List.{list_all};
 ghost use Rattle.i7_sentences.specs.Forms.{are_shorter, higher_forms, lower_forms};
-ghost use Rattle.i7_sentences.specs.Matching.{best_fit, first_fit, found_as, lowest_fit, preferred};
+ghost use Rattle.i7_sentences.specs.Matching.{FitAlike, best_fit, first_fit, found_as, lowest_fit, preferred};
 ghost use Rattle.i7_sentences.specs.Found.{found_in};
 ghost use Rattle.i7_sentences.specs.Needed.{are_needed, needs};
 ghost use Rattle.i7_sentences.specs.Signs.{table_of};
@@ -102,8 +102,7 @@ fn without_unfit<'a>(
     tokens: &[Tagged<'_>],
 ) -> &'a [(Form, &'static [Piece])]
     requires { signs.now ≡ table_of tokens.now }
-    ensures same { best_fit (map (λ variant. record { form = variant.0; pieces = variant.1.now }) result.now) tokens.now
-        ≡ best_fit (map (λ variant. record { form = variant.0; pieces = variant.1.now }) variants.now) tokens.now }
+    ensures same { FitAlike result.now variants.now (λ variant. record { form = variant.0; pieces = variant.1.now }) tokens.now }
     ensures within { length result.now ≤ length variants.now }
 {
     let mut rest = variants;
@@ -148,8 +147,7 @@ fn variants_left<'a>(
 ) -> &'a [(Form, &'static [Piece])]
     requires signs { signs.now ≡ table_of tokens.now }
     requires needed { list_all (needs word) (map (λ variant. record { form = variant.0; pieces = variant.1.now }) variants.now) ≡ true }
-    ensures { best_fit (map (λ variant. record { form = variant.0; pieces = variant.1.now }) result.now) tokens.now
-        ≡ best_fit (map (λ variant. record { form = variant.0; pieces = variant.1.now }) variants.now) tokens.now }
+    ensures { FitAlike result.now variants.now (λ variant. record { form = variant.0; pieces = variant.1.now }) tokens.now }
 {
     if is_lacking(word, signs) {
         return &[];

@@ -1,7 +1,7 @@
 //! The words between the brackets of a text.
 ghost use Rattle.std.specs.Prelude.{◌≡◌, ◌<◌, ◌≤◌, ◌∷◌, ◌++◌, length, IfOk, MatchOption, OnOk};
-ghost use Rattle.std.specs.List.{after_first, before_first, position_or_len};
-ghost use Rattle.i7_sentences.specs.BracketedWords.{is_gap};
+ghost use Rattle.std.specs.List.{position_or_len};
+ghost use Rattle.i7_sentences.specs.BracketedWords.{is_gap, IsPartedAt};
 ghost use Rattle.i7_sentences.specs.TextPieces.{is_fixed_in_place, is_switched, joined, run_word, runs_of, spaced, words_of};
 
 use crate::WordList;
@@ -19,11 +19,7 @@ fn run_len(bytes: &[u8]) -> usize
 
 /// The bytes in front of the first that is of no word, and those behind it; none where there is none.
 fn parted_at_gap(bytes: &[u8]) -> Option<(&[u8], &[u8])>
-    ensures { MatchOption result (length bytes.now ≤ position_or_len is_gap bytes.now) (λ parts.
-        (position_or_len is_gap bytes.now < length bytes.now)
-        × (parts.0.now ≡ before_first is_gap bytes.now)
-        × (parts.1.now ≡ after_first is_gap bytes.now)
-        × (length parts.1.now < length bytes.now)) }
+    ensures { IsPartedAt is_gap bytes.now result }
 {
     let (front, rest) = bytes.split_at(run_len(bytes));
     match rest {

@@ -1,5 +1,5 @@
 -- What a walk over a list of rules finds from a place on: the first that passes a test.
-use Rattle.std.specs.Prelude.{◌≡◌, ℕ, ◌≤◌, ◌<◌, Bool, true, false, List, Option, None, Some, slice_get, if◌then◌else◌}
+use Rattle.std.specs.Prelude.{◌≡◌, ℕ, ◌≤◌, ◌<◌, Bool, true, false, List, MatchOption, Option, None, Some, slice_get, if◌then◌else◌}
 
 abbrev pub passing : (ℕ → Bool) → Option ℕ → Option ℕ
 passing passes None = None
@@ -19,3 +19,7 @@ pub record IsFirstFrom (passes : ℕ → Bool) (rules : List ℕ) (from place ru
   pub there : slice_get rules place ≡ Some rule
   pub passing : passes rule ≡ true
   pub others : NonePasses passes rules from place
+
+-- what a walk from a place on finds: the first that passes, and its place, or nothing where none does
+abbrev pub FindsFirst : (ℕ → Bool) → List ℕ → (from : ℕ) → Option (ℕ × ℕ) → Type 0
+FindsFirst passes rules from found = MatchOption found (NoneIsLeft passes rules from) (λ f. IsFirstFrom passes rules from f.0 f.1)

@@ -1,10 +1,10 @@
 //! The index of a story's rules.
-ghost use Rattle.std.specs.Prelude.{◌≡◌, ◌==◌, ◌+◌, ◌<◌, ◌^◌, IfOk, IfSome, MatchOption, position};
+ghost use Rattle.std.specs.Prelude.{◌≡◌, ◌==◌, ◌+◌, ◌<◌, ◌^◌, IfOk, IfSome, position};
 ghost use Rattle.story_format.specs.Facts.{rules_listed};
 ghost use Rattle.story_format.specs.declared.tables.Tables.{Tables};
 ghost use Rattle.rule_index.specs.Buckets.{place_in_book, rule_admits};
 ghost use Rattle.rule_index.specs.Classes.{AreIndexed, class_of};
-ghost use Rattle.rule_index.specs.Walks.{IsFirstFrom, NoneIsLeft};
+ghost use Rattle.rule_index.specs.Walks.{FindsFirst};
 
 use crate::admitting::Asked;
 use crate::classes::{Classes, classes_of};
@@ -104,8 +104,7 @@ impl Index {
         room: Option<ObjNo>,
         from: usize,
     ) -> Option<(usize, u16)>
-        ensures first { MatchOption result (NoneIsLeft (rule_admits self.now action noun room) (rules_listed self.now book) from)
-            (λ found. IsFirstFrom (rule_admits self.now action noun room) (rules_listed self.now book) from found.0 found.1) }
+        ensures first { FindsFirst (rule_admits self.now action noun room) (rules_listed self.now book) from result }
         ensures few { IfSome result (λ found. found.0 + 1 < 2 ^ 64) }
     {
         let story = self.story.as_ref();

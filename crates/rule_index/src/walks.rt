@@ -2,7 +2,7 @@
 ghost use Rattle.std.specs.Prelude.{◌≡◌, ◌+◌, ◌<◌, ◌^◌, ℕ, Bool, IfSome, List, [], ◌∷◌, MatchOption, drop, slice_get};
 ghost use Rattle.rule_index.specs.Buckets.{rule_admits};
 ghost use Rattle.rule_index.specs.Classes.{places_where, rule_suits};
-ghost use Rattle.rule_index.specs.Walks.{IsFirstFrom, NoneIsLeft, passing};
+ghost use Rattle.rule_index.specs.Walks.{FindsFirst, passing};
 
 use crate::admitting::{Asked, admits};
 use story_format::Story;
@@ -26,8 +26,7 @@ pub fn first_listed(
     from: usize,
     asked: &Asked,
 ) -> Option<(usize, u16)>
-    ensures first { MatchOption result (NoneIsLeft (rule_admits story.now asked.now.action asked.now.noun asked.now.room) listed.now from)
-        (λ found. IsFirstFrom (rule_admits story.now asked.now.action asked.now.noun asked.now.room) listed.now from found.0 found.1) }
+    ensures first { FindsFirst (rule_admits story.now asked.now.action asked.now.noun asked.now.room) listed.now from result }
     ensures few { IfSome result (λ found. found.0 + 1 < 2 ^ 64) }
 {
     for place in from..listed.len() {
@@ -66,8 +65,7 @@ pub fn first_of_class(
     asked: &Asked,
 ) -> Option<(usize, u16)>
     requires class { class.now ≡ places_where (rule_suits story.now asked.now.action) 0 listed.now }
-    ensures first { MatchOption result (NoneIsLeft (rule_admits story.now asked.now.action asked.now.noun asked.now.room) listed.now from)
-        (λ found. IsFirstFrom (rule_admits story.now asked.now.action asked.now.noun asked.now.room) listed.now from found.0 found.1) }
+    ensures first { FindsFirst (rule_admits story.now asked.now.action asked.now.noun asked.now.room) listed.now from result }
     ensures few { IfSome result (λ found. found.0 + 1 < 2 ^ 64) }
 {
     let mut rest = behind(class, from);

@@ -3,7 +3,7 @@ use Rattle.std.specs.Prelude.{◌≡◌, ℕ, Bool, true, false, List, [], ◌�
 use Rattle.play_meaning.specs.Attempts.{Attempt}
 use Rattle.play_meaning.specs.Effects.{Answer, ByItself, Ends, Fails, HasEffectOf, OutOfRange, Succeeds, changing, refusing, saying, silence}
 use Rattle.play_meaning.specs.PlainStories.{plain_telling}
-use Rattle.play_meaning.specs.Saying.{Telling}
+use Rattle.play_meaning.specs.Saying.{Telling, listed, name_in}
 use Rattle.play_meaning.specs.declared.action.ActionNow.{ActionNow}
 use Rattle.play_meaning.specs.declared.change.Change.TheVariants.{Put, SetFlag}
 use Rattle.standard_rules.specs.declared.answer.HostAnswer.{HostAnswer}
@@ -14,6 +14,13 @@ use Rattle.world_meaning.specs.declared.place.Rel.{Rel}
 use Rattle.world_meaning.specs.declared.session.Abandon.TheVariants.{NumberOutOfRange}
 use Rattle.world_store.specs.StoryGames.{plain_story}
 use Rattle.world_store.specs.StoryWorlds.{StoryWorld}
+use Rattle.play_meaning.specs.Scripts.{scope_of}
+use Rattle.play_meaning.specs.Seeing.{has_light}
+use Rattle.play_meaning.specs.Settings.{thing_kind}
+use Rattle.play_meaning.specs.Trees.{Those}
+use Rattle.play_meaning.specs.Values.{those}
+use Rattle.play_meaning.specs.declared.naming.Naming.{Naming}
+use Rattle.world_store.specs.StorySettings.{setting_of}
 
 abbrev pub ends_of : HostOutcome → Ends
 ends_of outcome.ByEnd = ByItself
@@ -35,6 +42,24 @@ DoesRule id s now answer = HasEffectOf id (telling_in s.tables) s.world now (ans
 -- the same, as one fact
 unfoldable pub HasEffect : ℕ → StoryWorld → ActionNow → HostAnswer → Type 0
 HasEffect = DoesRule
+
+-- ---- what is said and asked in this story and world
+
+-- an object's name, or nothing's
+abbrev pub name_of : StoryWorld → Naming → Option ℕ → List ℕ
+name_of s naming object = name_in (setting_of s.tables) naming object
+
+-- the names of objects
+abbrev pub names_of : StoryWorld → Naming → List ℕ → List ℕ
+names_of s naming objects = listed (setting_of s.tables) naming objects
+
+-- it is light where the player is
+abbrev pub is_lit : StoryWorld → Bool
+is_lit s = has_light (setting_of s.tables) s.world
+
+-- all things
+abbrev pub things_in : StoryWorld → ActionNow → List ℕ
+things_in s now = those (setting_of s.tables) (scope_of now) s.world (Those [] (Some thing_kind))
 
 -- ---- answers by what was asked
 

@@ -1,14 +1,13 @@
 //! What the standard rules ask of objects: of nothing, nothing is so but that it is the same as nothing.
 ghost use Rattle.std.specs.Prelude.{◌≡◌, [], Some};
 ghost use Rattle.std.specs.List.{list_any};
-ghost use Rattle.play_meaning.specs.Scripts.{scope_of};
 ghost use Rattle.play_meaning.specs.Seeing.{is_same};
-ghost use Rattle.play_meaning.specs.Settings.{thing_kind};
-ghost use Rattle.play_meaning.specs.Trees.{First, Second, Those};
+ghost use Rattle.play_meaning.specs.Trees.{First, Second};
 ghost use Rattle.play_meaning.specs.Truth.{has_thing, of_some};
-ghost use Rattle.play_meaning.specs.Values.{has_quality, is_among, is_held, those};
+ghost use Rattle.play_meaning.specs.Values.{has_quality, is_among, is_held};
 ghost use Rattle.world_meaning.specs.declared.place.Rel.TheVariants.{Part};
 ghost use Rattle.world_store.specs.StorySettings.{setting_of};
+ghost use Rattle.standard_rules.specs.Answers.{things_in};
 
 use crate::numbers::player;
 use play_meaning::ActionNow;
@@ -75,7 +74,7 @@ pub fn is_had(world: &World, object: Option<ObjNo>) -> bool
 /// Whether an object is part of a thing.
 #[tactic(auto, using(crate::proofs::Lists::part_of_those))]
 pub fn is_part(world: &World, now: &ActionNow) -> bool
-    ensures { result ≡ of_some now.now.noun (λ n. list_any (λ holder. is_held world.now.world Part (Some holder) n) (those (setting_of world.now.tables) (scope_of now.now) world.now.world (Those [] (Some thing_kind)))) }
+    ensures { result ≡ of_some now.now.noun (λ n. list_any (λ holder. is_held world.now.world Part (Some holder) n) (things_in world.now now.now)) }
 {
     is_of_kind(world, holder_by(world, Rel::Part, now.noun), KindNo::THING)
 }

@@ -1,9 +1,9 @@
 //! The rules of examining (the Standard Rules).
 ghost use Rattle.std.specs.Prelude.{◌≡◌, ◌++◌, IfOk, MatchOption, Some, codes, false, true};
-ghost use Rattle.play_meaning.specs.Saying.{chosen, listed, name_in};
+ghost use Rattle.play_meaning.specs.Saying.{chosen};
 ghost use Rattle.play_meaning.specs.Truth.{of_some};
 ghost use Rattle.play_meaning.specs.declared.naming.Naming.TheVariants.{Definite, Indefinite};
-ghost use Rattle.standard_rules.specs.Answers.{HasEffect, answer_of, are_any, said_if, stop};
+ghost use Rattle.standard_rules.specs.Answers.{HasEffect, answer_of, are_any, said_if, stop, name_of, names_of};
 ghost use Rattle.world_meaning.specs.Texts.{said};
 ghost use Rattle.world_store.specs.StorySettings.{setting_of};
 
@@ -54,7 +54,7 @@ fn told_of(
     noun: Option<ObjNo>,
     things: &[ObjNo],
 ) -> Result<HostAnswer, AllocError>
-    ensures { IfOk result (λ answer. answer_of answer ≡ said_if (are_any things.now) (front.now ++ (name_in (setting_of world.now.tables) Definite noun ++ (codes " is " ++ (listed (setting_of world.now.tables) Indefinite things.now ++ stop))))) }
+    ensures { IfOk result (λ answer. answer_of answer ≡ said_if (are_any things.now) (front.now ++ (name_of world.now Definite noun ++ (codes " is " ++ (names_of world.now Indefinite things.now ++ stop))))) }
 {
     if let [] = things {
         return Ok(silence(alloc));

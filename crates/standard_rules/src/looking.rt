@@ -1,12 +1,10 @@
 //! The rules of looking (the Standard Rules).
 ghost use Rattle.std.specs.Prelude.{◌≡◌, ◌∷◌, ◌++◌, [], IfOk, Some, codes, not};
-ghost use Rattle.play_meaning.specs.Saying.{chosen, description_in, name_in};
-ghost use Rattle.play_meaning.specs.Seeing.{has_light};
+ghost use Rattle.play_meaning.specs.Saying.{chosen, description_in};
 ghost use Rattle.play_meaning.specs.Worlds.{location_of};
 ghost use Rattle.play_meaning.specs.declared.naming.Naming.TheVariants.{Plain};
-ghost use Rattle.standard_rules.specs.Answers.{HasEffect, IsTold, answer_of, telling_in};
+ghost use Rattle.standard_rules.specs.Answers.{HasEffect, IsTold, answer_of, telling_in, name_of, is_lit};
 ghost use Rattle.world_meaning.specs.Texts.{said};
-ghost use Rattle.world_store.specs.StorySettings.{setting_of};
 
 use crate::answer::{HostAnswer, making, out_of_range, said, saying, silence};
 use crate::numbers::VISITED;
@@ -34,7 +32,7 @@ pub fn described(
 
 /// The name of the player's room, or that it is dark.
 fn heading(alloc: Global, world: &World) -> Result<Vec<u8>, AllocError>
-    ensures { IfOk result (λ text. text.items ≡ chosen (not (has_light (setting_of world.now.tables) world.now.world)) (said (codes "Darkness")) (name_in (setting_of world.now.tables) Plain (location_of world.now.world) ++ 10 ∷ [])) }
+    ensures { IfOk result (λ text. text.items ≡ chosen (not (is_lit world.now)) (said (codes "Darkness")) (name_of world.now Plain (location_of world.now.world) ++ 10 ∷ [])) }
 {
     if !world.lit_here() {
         return Vec::from_slice(alloc, b"Darkness\n");

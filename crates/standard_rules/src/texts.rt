@@ -1,9 +1,7 @@
 //! Texts with the names of objects, and the answers that say them.
 ghost use Rattle.std.specs.Prelude.{◌≡◌, ◌++◌, IfOk, OnOk};
-ghost use Rattle.play_meaning.specs.Saying.{listed, name_in};
 ghost use Rattle.play_meaning.specs.declared.naming.Naming.TheVariants.{CapitalDefinite, Definite, Indefinite};
-ghost use Rattle.standard_rules.specs.Answers.{answer_of, are_any, refused_if, said_if, stop};
-ghost use Rattle.world_store.specs.StorySettings.{setting_of};
+ghost use Rattle.standard_rules.specs.Answers.{answer_of, are_any, refused_if, said_if, stop, name_of, names_of};
 
 use crate::answer::{HostAnswer, refusing, saying, silence};
 use play_meaning::Naming;
@@ -41,7 +39,7 @@ pub fn within(object: Option<ObjNo>) -> Named
 
 /// Adds an object's name, or that it is nothing.
 fn add_name(text: &mut Vec<u8>, world: &World, name: Named) -> Result<(), AllocError>
-    ensures { OnOk result (text.new.items ≡ text.old.items ++ name_in (setting_of world.now.tables) name.naming name.object) }
+    ensures { OnOk result (text.new.items ≡ text.old.items ++ name_of world.now name.naming name.object) }
 {
     match say_name(world, text, name.naming, name.object) {
         Ok(()) => Ok(()),
@@ -51,7 +49,7 @@ fn add_name(text: &mut Vec<u8>, world: &World, name: Named) -> Result<(), AllocE
 
 /// Adds objects as a list with `a` or `an`, or that they are nothing.
 pub fn add_list(text: &mut Vec<u8>, world: &World, objects: &[ObjNo]) -> Result<(), AllocError>
-    ensures { OnOk result (text.new.items ≡ text.old.items ++ listed (setting_of world.now.tables) Indefinite objects.now) }
+    ensures { OnOk result (text.new.items ≡ text.old.items ++ names_of world.now Indefinite objects.now) }
 {
     match say_listed(world, text, Naming::Indefinite, objects) {
         Ok(()) => Ok(()),
@@ -67,7 +65,7 @@ pub fn with_name(
     name: Named,
     behind: &[u8],
 ) -> Result<Vec<u8>, AllocError>
-    ensures { IfOk result (λ text. text.items ≡ front.now ++ (name_in (setting_of world.now.tables) name.naming name.object ++ behind.now)) }
+    ensures { IfOk result (λ text. text.items ≡ front.now ++ (name_of world.now name.naming name.object ++ behind.now)) }
 {
     let mut text = Vec::from_slice(alloc, front)?;
     add_name(&mut text, world, name)?;
@@ -84,7 +82,7 @@ pub fn with_names(
     between: &[u8],
     other: Option<ObjNo>,
 ) -> Result<Vec<u8>, AllocError>
-    ensures { IfOk result (λ text. text.items ≡ front.now ++ (name_in (setting_of world.now.tables) Definite object ++ (between.now ++ (name_in (setting_of world.now.tables) Definite other ++ stop)))) }
+    ensures { IfOk result (λ text. text.items ≡ front.now ++ (name_of world.now Definite object ++ (between.now ++ (name_of world.now Definite other ++ stop)))) }
 {
     let mut text = with_name(alloc, world, front, within(object), between)?;
     add_name(&mut text, world, within(other))?;
@@ -100,7 +98,7 @@ pub fn with_list(
     objects: &[ObjNo],
     behind: &[u8],
 ) -> Result<Vec<u8>, AllocError>
-    ensures { IfOk result (λ text. text.items ≡ front.now ++ (listed (setting_of world.now.tables) Indefinite objects.now ++ behind.now)) }
+    ensures { IfOk result (λ text. text.items ≡ front.now ++ (names_of world.now Indefinite objects.now ++ behind.now)) }
 {
     let mut text = Vec::from_slice(alloc, front)?;
     add_list(&mut text, world, objects)?;
@@ -117,7 +115,7 @@ pub fn refused_with_name(
     object: Option<ObjNo>,
     behind: &[u8],
 ) -> Result<HostAnswer, AllocError>
-    ensures { IfOk result (λ answer. answer_of answer ≡ refused_if is (front.now ++ (name_in (setting_of world.now.tables) Definite object ++ behind.now))) }
+    ensures { IfOk result (λ answer. answer_of answer ≡ refused_if is (front.now ++ (name_of world.now Definite object ++ behind.now))) }
 {
     if !is {
         return Ok(silence(alloc));
@@ -134,7 +132,7 @@ pub fn refused_from_name(
     object: Option<ObjNo>,
     behind: &[u8],
 ) -> Result<HostAnswer, AllocError>
-    ensures { IfOk result (λ answer. answer_of answer ≡ refused_if is (name_in (setting_of world.now.tables) CapitalDefinite object ++ behind.now)) }
+    ensures { IfOk result (λ answer. answer_of answer ≡ refused_if is (name_of world.now CapitalDefinite object ++ behind.now)) }
 {
     if !is {
         return Ok(silence(alloc));
@@ -151,7 +149,7 @@ pub fn listed_if_any(
     objects: &[ObjNo],
     behind: &[u8],
 ) -> Result<HostAnswer, AllocError>
-    ensures { IfOk result (λ answer. answer_of answer ≡ said_if (are_any objects.now) (front.now ++ (listed (setting_of world.now.tables) Indefinite objects.now ++ behind.now))) }
+    ensures { IfOk result (λ answer. answer_of answer ≡ said_if (are_any objects.now) (front.now ++ (names_of world.now Indefinite objects.now ++ behind.now))) }
 {
     match objects {
         [] => Ok(silence(alloc)),

@@ -1,5 +1,5 @@
 -- Runs of a story's codes over a ground: how they stand, and what a step of them comes to.
-use Rattle.std.specs.Prelude.{◌≡◌, ◌≢◌, ℕ, zero, suc, ℤ, ◌+◌, ◌-◌, ◌<◌, ◌≤◌, Bool, true, false, List, [], ◌∷◌, ◌++◌, map, length, MatchResult, Option, None, Result, Some, Ok, is_some, slice_get, slice_index_or, take}
+use Rattle.std.specs.Prelude.{◌≡◌, ◌≢◌, ℕ, zero, suc, ℤ, ◌+◌, ◌-◌, ◌<◌, ◌≤◌, Bool, true, false, List, [], ◌∷◌, ◌++◌, map, length, MatchResult, Option, None, Result, Some, Ok, Err, is_some, slice_get, slice_index_or, take}
 use Rattle.std.specs.List.{range_with_len}
 use Rattle.play_meaning.specs.Attempts.{Attempt, next}
 use Rattle.play_meaning.specs.Codes.{Codes, frame_of, test_within}
@@ -152,6 +152,10 @@ CameTo fixed judged now w i s text result t said = MatchResult result (λ came. 
 -- what came of an instruction behind which a run goes on, unless play broke off
 abbrev pub Proceeds : {A : Type 0} → Fixed → List Judged → ActionNow → World → Instruction → Standing → List ℕ → Result A Abandon → Standing → List ℕ → Type 0
 Proceeds fixed judged now w i s text result t said = MatchResult result (λ done. Leads fixed judged now w i s text On t said) (BreaksOff fixed judged now w i s text)
+
+-- this is so of what is answered: a value, or why play is abandoned, unless memory lacked
+abbrev pub Tells : {R A : Type 0} → (Attempt A → Type 0) → (R → A) → Result R Abandon → Type 0
+Tells is value result = MatchResult result (λ r. is (Ok (value r))) (λ reason. reason ≢ Memory → is (Err reason))
 
 -- ---- tests
 

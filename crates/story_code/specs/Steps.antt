@@ -1,12 +1,13 @@
 -- What a step of a body comes to: the run goes on or ends, or its caller does an action or follows a rulebook first.
-use Rattle.std.specs.Prelude.{◌≡◌, ◌≢◌, ◌⊎◌, ℕ, Bool, true, false, List, [], ◌∷◌, ◌++◌, MatchResult, Result}
+use Rattle.std.specs.Prelude.{◌≡◌, ◌≢◌, ◌⊎◌, ℕ, Bool, true, false, List, [], ◌∷◌, ◌++◌, MatchResult, Option, Result}
 use Rattle.play_meaning.specs.Attempts.{Attempt}
-use Rattle.play_meaning.specs.Codes.{frame_of, test_of}
+use Rattle.play_meaning.specs.Codes.{description_said, frame_of, test_of}
 use Rattle.play_meaning.specs.Doing.{Inner}
-use Rattle.play_meaning.specs.Grounds.{Fixed, telling_by}
+use Rattle.play_meaning.specs.Grounds.{Fixed, said_by_code, telling_by}
 use Rattle.play_meaning.specs.Machines.{Abandons, Frame, Goes, Leaves, State, Step as Coming, does, step, unless_abandoned}
 use Rattle.play_meaning.specs.Progress.{Progress}
-use Rattle.play_meaning.specs.Saying.{Telling}
+use Rattle.play_meaning.specs.Saying.{Telling, description_in}
+use Rattle.play_meaning.specs.Scripts.{undescribed}
 use Rattle.play_meaning.specs.Worlds.{World}
 use Rattle.play_meaning.specs.declared.action.ActionNow.{ActionNow}
 use Rattle.play_meaning.specs.declared.instruction.Instruction.{Instruction}
@@ -27,6 +28,20 @@ told_by fixed judged = telling_by (codes_of fixed judged) fixed.setting fixed.de
 
 abbrev pub body_frame : Fixed → List Judged → ActionNow → Inner → Frame
 body_frame fixed judged now inner = frame_of (codes_of fixed judged) (told_by fixed judged) inner (test_of (codes_of fixed judged) (told_by fixed judged) now) now
+
+-- ---- descriptions
+
+-- what the code of this number says
+abbrev pub DescriptionIs : Fixed → List Judged → ActionNow → World → ℕ → Attempt (List ℕ) → Type 0
+DescriptionIs fixed judged now w number answer = description_said (codes_of fixed judged) (undescribed fixed.setting) number now w ≡ answer
+
+-- what the code of this object's description says, if it is described
+abbrev pub SaidByCodeIs : Fixed → List Judged → ActionNow → World → ℕ → Attempt (List ℕ) → Type 0
+SaidByCodeIs fixed judged now w object answer = said_by_code (codes_of fixed judged) fixed.setting now w (fixed.descriptions object) ≡ answer
+
+-- what is said where this object's description is asked for
+abbrev pub SaidOfIs : Fixed → List Judged → ActionNow → World → Option ℕ → Attempt (List ℕ) → Type 0
+SaidOfIs fixed judged now w object answer = description_in (told_by fixed judged) now w object ≡ answer
 
 -- ---- steps
 

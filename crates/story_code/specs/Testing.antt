@@ -1,12 +1,15 @@
 -- How a run of a test goes on: what the code that runs tests keeps.
-use Rattle.std.specs.Prelude.{◌≡◌, ℕ, suc, ◌+◌, ◌≤◌, List, [], Option, length}
+use Rattle.std.specs.Prelude.{◌≡◌, ◌≢◌, ◌⊎◌, ℕ, suc, ◌+◌, ◌≤◌, Bool, true, List, [], MatchResult, Option, Result, length}
 use Rattle.play_meaning.specs.Codes.{no_inner}
 use Rattle.play_meaning.specs.Grounds.{Fixed}
 use Rattle.play_meaning.specs.Instructions.{sizes}
-use Rattle.play_meaning.specs.Machines.{Frame, Goes, State, Step, run}
+use Rattle.play_meaning.specs.Machines.{Abandons, Answers, Frame, Goes, Leaves, State, Step, run}
 use Rattle.play_meaning.specs.Worlds.{World}
 use Rattle.play_meaning.specs.declared.action.ActionNow.{ActionNow}
 use Rattle.play_meaning.specs.declared.instruction.Instruction.{Instruction}
+use Rattle.play_meaning.specs.declared.outcome.Flow.TheVariants.{GoesOn}
+use Rattle.world_meaning.specs.declared.session.Abandon.{Abandon}
+use Rattle.world_meaning.specs.declared.session.Abandon.TheVariants.{Memory}
 use Rattle.story_code.specs.Runs.{Describes, MayRead, Standing, code_at, frame_in, state_in}
 use Rattle.story_code.specs.Soundness.{Judged}
 
@@ -32,3 +35,11 @@ IsLast st = Unit {0}
 abbrev pub EndsSo : Fixed → List Judged → ActionNow → World → Standing → List ℕ → Step → Type 0
 EndsSo fixed judged now w start from end = (depth : ℕ) (describes : Describes) → length judged ≤ start.code + suc depth → (steps : ℕ) → sizes (code_at judged start.code) ≤ start.place + steps
     → run (frame_in fixed judged now depth describes no_inner) (code_at judged start.code) steps (state_in start w from) ≡ end
+
+-- a run of a test or a description comes to its end: a test answers, a description has said this and done so much work, or play
+-- is abandoned, unless memory lacked
+abbrev pub IsReadFrom : Fixed → List Judged → ActionNow → World → Standing → List ℕ → ℕ → List ℕ → Result Bool Abandon → Type 0
+IsReadFrom fixed judged now w start from work said result = MatchResult result
+    (λ truth. EndsSo fixed judged now w start from (Answers truth)
+    ⊎ ((truth ≡ true) × EndsSo fixed judged now w start from (Leaves GoesOn (record { world = w; text = said; work = work }))))
+    (λ reason. reason ≢ Memory → EndsSo fixed judged now w start from (Abandons reason))

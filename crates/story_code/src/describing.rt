@@ -1,12 +1,6 @@
 //! What an object's description says, in a body.
-ghost use Rattle.std.specs.Prelude.{◌≡◌, ◌≢◌, Err, Ok, MatchResult};
-ghost use Rattle.play_meaning.specs.Codes.{description_said};
-ghost use Rattle.play_meaning.specs.Grounds.{said_by_code};
-ghost use Rattle.play_meaning.specs.Saying.{description_in};
-ghost use Rattle.play_meaning.specs.Scripts.{undescribed};
-ghost use Rattle.story_code.specs.Runs.{AreDescribedBy, AreSoundTogether, IsDescription, codes_of};
-ghost use Rattle.story_code.specs.Steps.{told_by};
-ghost use Rattle.world_meaning.specs.declared.session.Abandon.TheVariants.{Memory};
+ghost use Rattle.story_code.specs.Runs.{AreDescribedBy, AreSoundTogether, IsDescription, Tells};
+ghost use Rattle.story_code.specs.Steps.{DescriptionIs, SaidByCodeIs, SaidOfIs};
 
 use crate::naming::say;
 use crate::plain::read_plain;
@@ -26,9 +20,7 @@ fn said_by<G: Ground>(
 ) -> Result<Vec<u8>, Abandon>
     requires sound { AreSoundTogether codes.now }
     requires describes { IsDescription codes.now number }
-    ensures { MatchResult result
-        (λ said. description_said (codes_of (G.fixed ground.now) codes.now) (undescribed (G.fixed ground.now).setting) number now.now (G.world ground.now) ≡ Ok said.items)
-        (λ reason. reason ≢ Memory → description_said (codes_of (G.fixed ground.now) codes.now) (undescribed (G.fixed ground.now).setting) number now.now (G.world ground.now) ≡ Err reason) }
+    ensures { Tells (DescriptionIs (G.fixed ground.now) codes.now now.now (G.world ground.now) number) (λ said. said.items) result }
 {
     let mut state = RunState::new(number, 0);
     let mut text = Vec::new(alloc);
@@ -48,10 +40,7 @@ fn said_of<G: Ground>(
 ) -> Result<Vec<u8>, Abandon>
     requires sound { AreSoundTogether codes.now }
     requires described { AreDescribedBy codes.now (G.fixed ground.now) }
-    ensures { MatchResult result
-        (λ said. said_by_code (codes_of (G.fixed ground.now) codes.now) (G.fixed ground.now).setting now.now (G.world ground.now) ((G.fixed ground.now).descriptions object) ≡ Ok said.items)
-        (λ reason. reason ≢ Memory
-        → said_by_code (codes_of (G.fixed ground.now) codes.now) (G.fixed ground.now).setting now.now (G.world ground.now) ((G.fixed ground.now).descriptions object) ≡ Err reason) }
+    ensures { Tells (SaidByCodeIs (G.fixed ground.now) codes.now now.now (G.world ground.now) object) (λ said. said.items) result }
 {
     match ground.description(object) {
         Some(number) => match said_by(alloc, ground, codes, now, number) {
@@ -72,8 +61,7 @@ pub fn description<G: Ground>(
 ) -> Result<Vec<u8>, Abandon>
     requires sound { AreSoundTogether codes.now }
     requires described { AreDescribedBy codes.now (G.fixed ground.now) }
-    ensures { MatchResult result (λ said. description_in (told_by (G.fixed ground.now) codes.now) now.now (G.world ground.now) object ≡ Ok said.items)
-        (λ reason. reason ≢ Memory → description_in (told_by (G.fixed ground.now) codes.now) now.now (G.world ground.now) object ≡ Err reason) }
+    ensures { Tells (SaidOfIs (G.fixed ground.now) codes.now now.now (G.world ground.now) object) (λ said. said.items) result }
 {
     match object {
         Some(object) if ground.has_description(object) => {

@@ -5,7 +5,7 @@ ghost use Rattle.play_meaning.specs.Meant.{body_meant, condition_meant, text_mea
 ghost use Rattle.play_meaning.specs.TranslatedScripts.{description_part, test_part};
 ghost use Rattle.play_meaning.specs.Translation.{Part};
 ghost use Rattle.play_meaning.specs.declared.operand.Use.TheVariants as role;
-ghost use Rattle.story_code.specs.Emits.{AreEmitted, AreSpelled, whole_body};
+ghost use Rattle.story_code.specs.Emits.{AreEmitted, AreSpelled, IfTooLong, IsOnlyMemory, whole_body};
 ghost use Rattle.story_code.specs.Emitting.{can_say_all, emitted, nothing_from};
 ghost use Rattle.story_code.specs.Fitting.{BodyFits, ConditionFits, TextFits};
 ghost use Rattle.story_code.specs.ShortLaws.{IsCountedInTwoBytes, IsNumberedFrom, IsShortBody, IsShortCondition, IsShortDescription};
@@ -55,10 +55,10 @@ pub fn body_codes(
     ensures codes { IfOk result (λ codes. AreEmitted (whole_body (number_in strings.now) (body_meant body.now) first 0) codes.items) }
     ensures fits { OnOk result ((own codes : ℕ) → BodyFits (among counts.now own codes) (number_in strings.now) 0 (body_meant body.now)) }
     ensures sound { IfOk result (λ codes. AreSoundAnywhere counts.now role.Body first (whole_body (number_in strings.now) (body_meant body.now) first 0) codes.items) }
-    ensures too_long { IfErr result (λ fault. fault ≡ EmitFault.TooLong → BodyFits counts.now (number_in strings.now) 0 (body_meant body.now)
+    ensures too_long { IfTooLong result (BodyFits counts.now (number_in strings.now) 0 (body_meant body.now)
         → can_say_all (whole_body (number_in strings.now) (body_meant body.now) first 0) ≡ false) }
-    ensures short { IsShortBody counts.now (number_in strings.now) (body_meant body.now) → IsNumberedFrom first (whole_body (number_in strings.now) (body_meant body.now) first 0)
-        → IfErr result (λ fault. fault ≡ EmitFault.Memory) }
+    ensures short { IsShortBody counts.now (number_in strings.now) (body_meant body.now)
+        → IsNumberedFrom first (whole_body (number_in strings.now) (body_meant body.now) first 0) → IsOnlyMemory result }
 {
     told_in_two_bytes(counts);
     if !body_fits(counts, strings, body) {
@@ -87,9 +87,9 @@ pub fn condition_codes(
     ensures codes { IfOk result (λ codes. AreEmitted (test_part (condition_meant condition.now) first 0) codes.items) }
     ensures fits { OnOk result ((own codes : ℕ) → ConditionFits (among counts.now own codes) 0 0 (condition_meant condition.now)) }
     ensures sound { IfOk result (λ codes. AreSoundAnywhere counts.now (role.Test 0) first (test_part (condition_meant condition.now) first 0) codes.items) }
-    ensures too_long { IfErr result (λ fault. fault ≡ EmitFault.TooLong → ConditionFits counts.now 0 0 (condition_meant condition.now)
+    ensures too_long { IfTooLong result (ConditionFits counts.now 0 0 (condition_meant condition.now)
         → can_say_all (test_part (condition_meant condition.now) first 0) ≡ false) }
-    ensures short { IsShortCondition counts.now (condition_meant condition.now) → IsNumberedFrom first (test_part (condition_meant condition.now) first 0) → IfErr result (λ fault. fault ≡ EmitFault.Memory) }
+    ensures short { IsShortCondition counts.now (condition_meant condition.now) → IsNumberedFrom first (test_part (condition_meant condition.now) first 0) → IsOnlyMemory result }
 {
     told_in_two_bytes(counts);
     if !condition_fits(counts, condition) {
@@ -119,9 +119,10 @@ pub fn description_codes(
     ensures codes { IfOk result (λ codes. AreEmitted (description_part (number_in strings.now) (text_meant text.now) first 0) codes.items) }
     ensures fits { OnOk result ((own codes : ℕ) → TextFits (among counts.now own codes) role.Describing (number_in strings.now) 0 (text_meant text.now)) }
     ensures sound { IfOk result (λ codes. AreSoundAnywhere counts.now role.Describing first (description_part (number_in strings.now) (text_meant text.now) first 0) codes.items) }
-    ensures too_long { IfErr result (λ fault. fault ≡ EmitFault.TooLong → TextFits counts.now role.Describing (number_in strings.now) 0 (text_meant text.now)
+    ensures too_long { IfTooLong result (TextFits counts.now role.Describing (number_in strings.now) 0 (text_meant text.now)
         → can_say_all (description_part (number_in strings.now) (text_meant text.now) first 0) ≡ false) }
-    ensures short { IsShortDescription counts.now (number_in strings.now) (text_meant text.now) → IsNumberedFrom first (description_part (number_in strings.now) (text_meant text.now) first 0) → IfErr result (λ fault. fault ≡ EmitFault.Memory) }
+    ensures short { IsShortDescription counts.now (number_in strings.now) (text_meant text.now)
+        → IsNumberedFrom first (description_part (number_in strings.now) (text_meant text.now) first 0) → IsOnlyMemory result }
 {
     told_in_two_bytes(counts);
     if !description_fits(counts, strings, text) {

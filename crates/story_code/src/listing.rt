@@ -1,7 +1,7 @@
 //! The objects that pass a test, and their names.
-ghost use Rattle.std.specs.Prelude.{◌≡◌, ◌≢◌, Err, Ok, MatchResult, OnErr, OnOk, length};
+ghost use Rattle.std.specs.Prelude.{◌≡◌, Err, Ok, OnErr, OnOk, length};
 ghost use Rattle.play_meaning.specs.declared.instruction.Instruction.TheVariants.{Names};
-ghost use Rattle.story_code.specs.Runs.{AreSoundTogether, IsNamedTest, IsServed, LoopsSuit, PassingAre, Proceeds, kept_if};
+ghost use Rattle.story_code.specs.Runs.{AreSoundTogether, IsNamedTest, IsServed, LoopsSuit, PassingAre, Proceeds, Tells, kept_if};
 ghost use Rattle.world_meaning.specs.declared.session.Abandon.TheVariants.{Memory};
 
 use crate::naming::say_listed;
@@ -45,8 +45,7 @@ fn passing_in<G: Ground>(
 ) -> Result<Vec<ObjNo>, Abandon>
     requires sound { AreSoundTogether codes.now }
     requires named { IsNamedTest codes.now state.now.code (length state.now.loops) test }
-    ensures { MatchResult result (λ objects. PassingAre (G.fixed ground.now) codes.now now.now (G.world ground.now) state.now.loops test (Ok objects.items))
-        (λ reason. reason ≢ Memory → PassingAre (G.fixed ground.now) codes.now now.now (G.world ground.now) state.now.loops test (Err reason)) }
+    ensures { Tells (PassingAre (G.fixed ground.now) codes.now now.now (G.world ground.now) state.now.loops test) (λ objects. objects.items) result }
 {
     let mut objects = Vec::new(alloc);
     for number in 0..ground.object_count() {

@@ -1,8 +1,7 @@
 //! Loops of a body, which turn to the objects that pass their test.
-ghost use Rattle.std.specs.Prelude.{◌≡◌, ◌≢◌, ◌+◌, Err, Ok, MatchResult, length};
+ghost use Rattle.std.specs.Prelude.{◌≡◌, ◌+◌, Err, Ok, length};
 ghost use Rattle.play_meaning.specs.Machines.{number_behind};
-ghost use Rattle.story_code.specs.Runs.{AreSoundTogether, IsNamedTest, NextIs};
-ghost use Rattle.world_meaning.specs.declared.session.Abandon.TheVariants.{Memory};
+ghost use Rattle.story_code.specs.Runs.{AreSoundTogether, IsNamedTest, NextIs, Tells};
 
 use crate::state::RunState;
 use crate::testing::answer;
@@ -32,8 +31,7 @@ pub fn next_object<G: Ground>(
     requires sound { AreSoundTogether codes.now }
     requires innermost { number + 1 ≡ length state.now.loops }
     requires named { IsNamedTest codes.now state.now.code number test }
-    ensures { MatchResult result (λ object. NextIs (G.fixed ground.now) codes.now now.now (G.world ground.now) state.now.loops number test (Ok object))
-        (λ reason. reason ≢ Memory → NextIs (G.fixed ground.now) codes.now now.now (G.world ground.now) state.now.loops number test (Err reason)) }
+    ensures { Tells (NextIs (G.fixed ground.now) codes.now now.now (G.world ground.now) state.now.loops number test) (λ object. object) result }
 {
     let mut outer = state.loops.copied();
     outer.keep(number);

@@ -1,10 +1,6 @@
 //! A test or a description, run whole.
-ghost use Rattle.std.specs.Prelude.{◌≡◌, ◌≢◌, ◌⊎◌, MatchResult, true};
-ghost use Rattle.play_meaning.specs.Machines.{Abandons, Answers, Leaves};
-ghost use Rattle.play_meaning.specs.declared.outcome.Flow.TheVariants.{GoesOn};
 ghost use Rattle.story_code.specs.Runs.{AreSoundTogether, MayRead};
-ghost use Rattle.story_code.specs.Testing.{EndsSo};
-ghost use Rattle.world_meaning.specs.declared.session.Abandon.TheVariants.{Memory};
+ghost use Rattle.story_code.specs.Testing.{IsReadFrom};
 
 use crate::came::Came;
 use crate::fetching::fetch;
@@ -31,11 +27,7 @@ pub fn read_plain<G: Ground>(
 ) -> Result<bool, Abandon>
     requires sound { AreSoundTogether codes.now }
     requires stands { MayRead codes.now state.old }
-    ensures { MatchResult result
-        (λ truth. EndsSo (G.fixed ground.now) codes.now now.now (G.world ground.now) state.old text.old.items (Answers truth)
-        ⊎ ((truth ≡ true) × EndsSo (G.fixed ground.now) codes.now now.now (G.world ground.now) state.old text.old.items
-        (Leaves GoesOn (record { world = G.world ground.now; text = text.new.items; work = state.new.work }))))
-        (λ reason. reason ≢ Memory → EndsSo (G.fixed ground.now) codes.now now.now (G.world ground.now) state.old text.old.items (Abandons reason)) }
+    ensures { IsReadFrom (G.fixed ground.now) codes.now now.now (G.world ground.now) state.old text.old.items state.new.work text.new.items result }
 {
     while let Some(instruction) = fetch(codes, state) {
         match describe(alloc, ground, codes, now, state, text, instruction) {

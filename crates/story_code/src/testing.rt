@@ -1,11 +1,10 @@
 //! Tests: what they answer, and which objects pass one.
-ghost use Rattle.std.specs.Prelude.{◌≡◌, ◌≢◌, ◌<◌, ℕ, List, Err, Ok, MatchResult, OnOk, length};
+ghost use Rattle.std.specs.Prelude.{◌≡◌, ◌<◌, ℕ, List, Err, Ok, OnOk, length};
 ghost use Rattle.play_meaning.specs.Machines.{does};
 ghost use Rattle.play_meaning.specs.Operands.{gives};
 ghost use Rattle.play_meaning.specs.Stands.{GivesObject};
 ghost use Rattle.play_meaning.specs.declared.operand.Counts.{Counts};
-ghost use Rattle.story_code.specs.Runs.{AreSoundTogether, CameTo, CountIs, IsNamedTest, IsServed, IsTestAt, LoopsSuit, Proceeds, TestIs, counted_if};
-ghost use Rattle.world_meaning.specs.declared.session.Abandon.TheVariants.{Memory};
+ghost use Rattle.story_code.specs.Runs.{AreSoundTogether, CameTo, CountIs, IsNamedTest, IsServed, IsTestAt, LoopsSuit, Proceeds, Tells, TestIs, counted_if};
 
 use crate::came::Came;
 use crate::fetching::fetch;
@@ -28,8 +27,7 @@ pub fn answer<G: Ground>(
 ) -> Result<bool, Abandon>
     requires sound { AreSoundTogether codes.now }
     requires there { IsTestAt codes.now number (length loops) }
-    ensures { MatchResult result (λ truth. TestIs (G.fixed ground.now) codes.now now.now (G.world ground.now) number loops (Ok truth))
-        (λ reason. reason ≢ Memory → TestIs (G.fixed ground.now) codes.now now.now (G.world ground.now) number loops (Err reason)) }
+    ensures { Tells (TestIs (G.fixed ground.now) codes.now now.now (G.world ground.now) number loops) (λ truth. truth) result }
 {
     let mut state = RunState::inside(number, loops);
     while let Some(instruction) = fetch(codes, &state) {
@@ -122,8 +120,7 @@ fn count_in<G: Ground>(
 ) -> Result<u16, Abandon>
     requires sound { AreSoundTogether codes.now }
     requires named { IsNamedTest codes.now state.now.code (length state.now.loops) test }
-    ensures { MatchResult result (λ count. CountIs (G.fixed ground.now) codes.now now.now (G.world ground.now) state.now.loops test (Ok count))
-        (λ reason. reason ≢ Memory → CountIs (G.fixed ground.now) codes.now now.now (G.world ground.now) state.now.loops test (Err reason)) }
+    ensures { Tells (CountIs (G.fixed ground.now) codes.now now.now (G.world ground.now) state.now.loops test) (λ count. count) result }
 {
     let mut count = 0;
     for number in 0..ground.object_count() {

@@ -14,7 +14,7 @@ use Rattle.play_meaning.specs.Trees.{Adjective, NotSo, Quality}
 use Rattle.play_meaning.specs.StandardActions.{standard_needs}
 use Rattle.play_meaning.specs.StandardRules.{plain}
 use Rattle.play_meaning.specs.declared.operand.Counts.{Counts}
-use Rattle.code_table.specs.Emitted.{AllFit, CanBeSaid, IsLongRule, IsLongScene, IsLongText, codes_of_origins}
+use Rattle.code_table.specs.Emitted.{AllFit, CanBeSaid, HaveNoTable, IsLongRule, IsLongScene, IsLongText, codes_of_origins}
 use Rattle.code_table.specs.declared.fault.TableFault.{TableFault}
 use Rattle.code_table.specs.declared.fault.TableFault.TheVariants.{LongText, LongRule, LongScene, TooMany, Memory}
 use Rattle.story_format.specs.Checks.{is_small}
@@ -42,6 +42,10 @@ has_few_words w = nat_le (length w.words) 32
 pub record IsHeld (t : Tale) : Type 0 where
   pub made : IsWellMade t
   pub texts : list_all has_short_texts t.objects ≡ true
+
+-- why what is said of a story has no codes, whose strings have these numbers
+abbrev pub HasNoCodes : Counts → (List ℕ → ℕ) → Contents → TableFault → Type 0
+HasNoCodes z string c = HaveNoTable z string c.texts c.rules c.scenes
 
 -- how many there are of what rules are about
 pub record Named : Type 0 where

@@ -226,17 +226,25 @@ coded_tables d books ws lines rules scenes origins strings = record (tables_but_
 unfoldable pub tables_with : Declared → List Book → List Worded → List Line → List Rule → List Scene → List Origin → Tables
 tables_with d books ws lines rules scenes origins = coded_tables d books ws lines rules scenes origins (strings_of (texts_named ws lines) (strings_behind d origins))
 
+-- the strings of a story of these objects, of which this is said
+abbrev pub story_strings : Declared → List Worded → Contents → List (List ℕ)
+story_strings d ws c = strings_of (texts_named ws (story_lines c.lines)) (strings_behind d (origins_said c))
+
+-- and its tables, but for the codes, where these are its books and strings
+abbrev pub story_tables : Declared → List Book → List Worded → Contents → List (List ℕ) → Tables
+story_tables d books ws c strings = tables_but_codes d books ws (story_lines c.lines) c.rules c.scenes strings
+
 -- the tables of a tale of which this is said
 abbrev pub tables_of : Tale → Contents → Tables
 tables_of t c = tables_with t.declared (books_of t c.listings c.rules) (worded c.synonyms t.objects) (story_lines c.lines) c.rules c.scenes (origins_said c)
 
 -- its strings
 abbrev pub strings_with : Tale → Contents → List (List ℕ)
-strings_with t c = strings_of (texts_named (worded c.synonyms t.objects) (story_lines c.lines)) (strings_behind t.declared (origins_said c))
+strings_with t c = story_strings t.declared (worded c.synonyms t.objects) c
 
 -- its tables, but for the codes
 abbrev pub tables_uncoded : Tale → Contents → Tables
-tables_uncoded t c = tables_but_codes t.declared (books_of t c.listings c.rules) (worded c.synonyms t.objects) (story_lines c.lines) c.rules c.scenes (strings_with t c)
+tables_uncoded t c = story_tables t.declared (books_of t c.listings c.rules) (worded c.synonyms t.objects) c (strings_with t c)
 
 -- ---- what is said of each object
 

@@ -1,7 +1,8 @@
 -- Rules as the order of their rulebook sees them.
-use Rattle.std.specs.Prelude.{ℕ, ◌+◌, Bool, List, [], ◌∷◌, is_some, slice_index_or}
+use Rattle.std.specs.Prelude.{ℕ, ◌+◌, Bool, List, [], ◌∷◌, ◌++◌, is_some, map, slice_index_or}
 use Rattle.play_meaning.specs.Patterns.{Pattern, listing_meant, pattern_meant}
 use Rattle.play_meaning.specs.Rules.{Listed, Rule}
+use Rattle.play_meaning.specs.StandardRules.{standard_rules}
 use Rattle.play_meaning.specs.declared.tree.pattern.Listing.{Listing}
 use Rattle.play_meaning.specs.declared.tree.pattern.Listing.TheVariants.{InOrder}
 use Rattle.play_meaning.specs.declared.tree.rule.RuleHead.{RuleHead}
@@ -42,3 +43,7 @@ headed_as listing h = record h { listed = listing_meant listing }
 abbrev pub headed_from : List Listing → ℕ → List Headed → List Headed
 headed_from listings number [] = []
 headed_from listings number (h ∷ hs) = headed_as (listing_at listings number) h ∷ headed_from listings (number + 1) hs
+
+-- those that every story has, and behind them the author's
+abbrev pub all_headed : List Listing → List Rule → List Headed
+all_headed listings rules = headed_from listings 0 (map heading_of standard_rules) ++ headed_from listings 61 (map heading_of rules)

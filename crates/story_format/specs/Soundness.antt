@@ -2,6 +2,7 @@
 -- name, and each string is named.
 use Rattle.std.specs.Prelude.{◌≡◌, ℕ, ◌+◌, ◌==◌, Bool, true, false, ◌&&◌, List, [], ◌∷◌, ◌++◌, length, map, Option, None, Some}
 use Rattle.code_table.specs.Strings.{counted_on, strings_of}
+use Rattle.story_code.specs.Runs.{code_told}
 use Rattle.story_code.specs.Soundness.{Judged}
 use Rattle.story_format.specs.declared.tables.Tables.{Tables}
 use Rattle.story_format.specs.Checks.{heads_named, strings_in_tables}
@@ -25,6 +26,10 @@ strings_read t = strings_in_tables t ++ strings_of (map code_spelled t.codes)
 -- and then those that kinds of value name
 abbrev pub all_strings_read : Tables → List ℕ
 all_strings_read t = strings_read t ++ strings_in_values t.values.kinds
+
+-- the same, where the codes are these
+abbrev pub all_strings_told : Tables → List Judged → List ℕ
+all_strings_told t codes = (strings_in_tables t ++ strings_of (map code_told codes)) ++ strings_in_values t.values.kinds
 
 -- The codes are a table, of which the objects and then the rules name the first, each of them once and in order; and each
 -- string is named, in order.

@@ -2,10 +2,10 @@
 ghost use Rattle.std.specs.Prelude.{◌≡◌, ◌&&◌, IfErr, IfOk, OnOk, length, nat_lt};
 ghost use Rattle.std.specs.List.{list_all};
 ghost use Rattle.object_words.specs.Mentions.{number_in};
-ghost use Rattle.code_table.specs.Emitted.{AllFit, CanBeSaid, HaveNoTable};
+ghost use Rattle.code_table.specs.Emitted.{AllFit, CanBeSaid};
 ghost use Rattle.story_format.specs.Codes.{counts_of};
 ghost use Rattle.story_format.specs.Contents.{contents_meant, origins_said};
-ghost use Rattle.story_format.specs.Holding.{AreHeld, AreNotHeld, AreOf, IsHeld, is_short};
+ghost use Rattle.story_format.specs.Holding.{AreHeld, AreNotHeld, AreOf, HasNoCodes, IsHeld, is_short};
 ghost use Rattle.story_format.specs.Making.{code_bytes, tables_of};
 
 use crate::contents::Contents;
@@ -47,7 +47,7 @@ fn with_codes(
     ensures coded { IfOk result (λ coded. coded ≡ record tables { codes = code_bytes strings.now (origins_said (contents_meant contents.now)) }) }
     ensures fit { OnOk result (AllFit (counts_of tables) (number_in strings.now) (origins_said (contents_meant contents.now))) }
     ensures said { OnOk result (CanBeSaid (number_in strings.now) (origins_said (contents_meant contents.now))) }
-    ensures none { IfErr result (HaveNoTable (counts_of tables) (number_in strings.now) (contents_meant contents.now).texts (contents_meant contents.now).rules (contents_meant contents.now).scenes) }
+    ensures none { IfErr result (HasNoCodes (counts_of tables) (number_in strings.now) (contents_meant contents.now)) }
 {
     let texts = contents.texts.as_slice();
     let rules = contents.rules.as_slice();

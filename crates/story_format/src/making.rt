@@ -4,8 +4,8 @@ ghost use Rattle.std.specs.List.{flat_map};
 ghost use Rattle.command_grammar.specs.Lines.{line_meant};
 ghost use Rattle.object_words.specs.Mentions.{first_mentions, mention, number_in};
 ghost use Rattle.play_meaning.specs.StandardGrammar.{standard_lines};
-ghost use Rattle.story_format.specs.Contents.{contents_meant, origins_said};
-ghost use Rattle.story_format.specs.Making.{books_of, worded, article_number, relation_number, place_relation, place_holder, code_number, entry_strings, line_entry, story_lines, strings_behind, strings_of, strings_with, entry_of, entries_of, texts_named, ways_of, described_in, tables_but_codes, tables_uncoded};
+ghost use Rattle.story_format.specs.Contents.{contents_meant};
+ghost use Rattle.story_format.specs.Making.{books_of, worded, article_number, relation_number, place_relation, place_holder, code_number, entry_strings, line_entry, story_lines, story_strings, story_tables, strings_with, entry_of, entries_of, texts_named, ways_of, described_in, tables_uncoded};
 ghost use Rattle.story_format.specs.WordedViews.{worded_of, all_worded};
 
 use crate::contents::Contents;
@@ -120,7 +120,7 @@ fn strings_of(
     declared: &Declared,
 ) -> Result<Strings, AllocError>
     requires standard { map line_meant standard.now ≡ standard_lines }
-    ensures { IfOk result (λ strings. strings ≡ strings_of (texts_named (all_worded worded.now) (story_lines (contents_meant contents.now).lines)) (strings_behind declared.now (origins_said (contents_meant contents.now)))) }
+    ensures { IfOk result (λ strings. strings ≡ story_strings declared.now (all_worded worded.now) (contents_meant contents.now)) }
 {
     let texts = contents.texts.as_slice();
     let rules = contents.rules.as_slice();
@@ -321,7 +321,7 @@ fn tables_but_codes(
     requires few { described_in (all_worded worded.now) ≤ 1000 }
     requires few_rules { length contents.now.rules.items ≤ 1939 }
     requires few_scenes { length contents.now.scenes.items ≤ 50 }
-    ensures { IfOk result (λ tables. tables ≡ tables_but_codes declared.now books (all_worded worded.now) (story_lines (contents_meant contents.now).lines) (contents_meant contents.now).rules (contents_meant contents.now).scenes strings.now) }
+    ensures { IfOk result (λ tables. tables ≡ story_tables declared.now books (all_worded worded.now) (contents_meant contents.now) strings.now) }
 {
     let rules = contents.rules.as_slice();
     let scenes = contents.scenes.as_slice();

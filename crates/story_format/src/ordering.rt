@@ -5,7 +5,7 @@ ghost use Rattle.play_meaning.specs.Patterns.{rule_meant};
 ghost use Rattle.play_meaning.specs.StandardRules.{standard_rules};
 ghost use Rattle.rule_order.specs.Books.{book_in};
 ghost use Rattle.story_format.specs.Making.{books_of};
-ghost use Rattle.story_format.specs.RuleHeadings.{headed_as, headed_from, head_meant, heading_meant, heading_of, listing_at};
+ghost use Rattle.story_format.specs.RuleHeadings.{all_headed, headed_as, headed_from, head_meant, heading_meant, heading_of, listing_at};
 
 use crate::rule_making::book_count;
 use crate::rule_tables::Book;
@@ -87,7 +87,7 @@ fn headings_of<'a>(
 ) -> Result<Vec<Heading<'a>>, AllocError>
     requires standard { map head_meant standard.now ≡ map heading_of standard_rules }
     requires few_rules { length rules.now ≤ 1939 }
-    ensures { IfOk result (λ headings. map heading_meant headings.items ≡ headed_from listings.now 0 (map heading_of standard_rules) ++ headed_from listings.now 61 (map heading_of (map rule_meant rules.now))) }
+    ensures { IfOk result (λ headings. map heading_meant headings.items ≡ all_headed listings.now (map rule_meant rules.now)) }
 {
     let mut headings = Vec::new(alloc);
     add_standard(&mut headings, listings, standard)?;

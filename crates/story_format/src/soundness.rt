@@ -3,7 +3,7 @@ ghost use Rattle.std.specs.Prelude.{◌≡◌, ◌++◌, IfOk, length, map};
 ghost use Rattle.code_table.specs.Strings.{counted_on, strings_of};
 ghost use Rattle.story_code.specs.Runs.{code_told};
 ghost use Rattle.story_format.specs.Checks.{strings_in_tables};
-ghost use Rattle.story_format.specs.Soundness.{are_in_turn, is_count};
+ghost use Rattle.story_format.specs.Soundness.{all_strings_told, are_in_turn, is_count};
 ghost use Rattle.story_format.specs.ValueChecks.{strings_in_values};
 
 use crate::checks::strings_in_tables;
@@ -64,7 +64,7 @@ fn counted_in_codes(
 
 /// Whether the objects and the lines, then the codes, and then the kinds of value, name each string, in order.
 pub fn are_all_named(alloc: Global, tables: &Tables, codes: &[Verified]) -> Result<bool, AllocError>
-    ensures { IfOk result (λ named. named ≡ is_count (length tables.now.strings) (counted_on 0 ((strings_in_tables tables.now ++ strings_of (map code_told codes.now)) ++ strings_in_values tables.now.values.kinds))) }
+    ensures { IfOk result (λ named. named ≡ is_count (length tables.now.strings) (counted_on 0 (all_strings_told tables.now codes.now))) }
 {
     let Some(next) = counted_in_codes(alloc, tables, codes)? else {
         return Ok(false);

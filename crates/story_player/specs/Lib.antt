@@ -7,6 +7,7 @@ pub mod LineTexts
 pub mod Meant
 pub mod Refusals
 pub mod Runs
+pub mod SessionRuns
 pub mod Sessions
 pub mod Spoken
 pub mod Steps

@@ -75,6 +75,13 @@ pub record BrokeAnswer (part : Option ℕ → List ℕ) (state : Option ℕ → 
   pub writes : WroteFront held now (part refused)
   pub behind : to ≡ state refused
 
+-- a typed line was answered, or writing its answer failed
+abbrev pub AnsweredTyped : Game → Bool → State → Typing → Option (List ℕ) → Option (List ℕ) → State → Type 0
+AnsweredTyped g echo from t = Answered (λ refused. typed_part g echo refused from t) (λ refused. (answer_to g refused from (typed_parts t)).state)
+
+abbrev pub BrokeTyped : Game → Bool → State → Typing → Option (List ℕ) → Option (List ℕ) → State → Type 0
+BrokeTyped g echo from t = BrokeAnswer (λ refused. typed_part g echo refused from t) (λ refused. (answer_to g refused from (typed_parts t)).state)
+
 -- the last line was answered, if there is one, or writing its answer failed
 abbrev pub AnsweredLast : Game → Bool → State → Typing → Option (List ℕ) → Option (List ℕ) → State → Type 0
 AnsweredLast g echo from t = Answered (λ refused. last_part g echo refused from t) (λ refused. last_state g refused from t)

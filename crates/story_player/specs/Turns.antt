@@ -1,5 +1,6 @@
 -- What a turn and the opening come to, and what is told of them.
-use Rattle.std.specs.Prelude.{◌≡◌, ℕ, Bool, true, false, not, List, [], ◌∷◌, ◌++◌, Option, None, Some, Ok, if◌then◌else◌}
+use Rattle.std.specs.Prelude.{◌≡◌, ℕ, Bool, true, false, not, List, [], ◌∷◌, ◌++◌, MatchResult, Option, None, Result, Some, Ok, if◌then◌else◌}
+use Rattle.action_stages.specs.Answering.{Breaks}
 use Rattle.world_meaning.specs.Texts.{closing_text}
 use Rattle.world_meaning.specs.declared.session.Ending.{Ending}
 use Rattle.world_meaning.specs.declared.session.Ending.TheVariants.{Story}
@@ -11,6 +12,7 @@ use Rattle.play_meaning.specs.Progress.{Progress, fresh}
 use Rattle.play_meaning.specs.Sessions.{Answer, State, abandoned, keep, parted_by_break, played}
 use Rattle.play_meaning.specs.Turns.{completed, ends_in_break, opening, perform, turn, turn_upon}
 use Rattle.play_meaning.specs.Worlds.{World}
+use Rattle.world_meaning.specs.declared.session.Abandon.{Abandon}
 use Rattle.world_meaning.specs.declared.session.Abandon.TheVariants.{Memory}
 use Rattle.story_player.specs.declared.deed.Deed.{Deed}
 use Rattle.story_player.specs.declared.deed.Deed.TheVariants as deed
@@ -77,3 +79,7 @@ pub record IsToldBehind (attempt : Attempt Progress) (w : World) (before after :
   pub text : List ℕ
   pub is : IsToldOf attempt w text
   pub behind : after ≡ parted_by_break before text
+
+-- play has come to this world, and this is told of it, or it is abandoned
+abbrev pub IsTried : {T : Type 0} → Result T Abandon → Attempt Progress → World → List ℕ → List ℕ → Type 0
+IsTried result attempt w before after = MatchResult result (λ done. IsToldBehind attempt w before after) (Breaks attempt)

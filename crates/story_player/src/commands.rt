@@ -1,17 +1,15 @@
 //! What a session answers to the commands of a line, one behind the other.
-ghost use Rattle.std.specs.Prelude.{◌≡◌, ◌≤◌, ◌<◌, ◌+◌, false, None, MatchResult, OnErr, OnOk, length};
+ghost use Rattle.std.specs.Prelude.{◌≡◌, ◌≤◌, ◌<◌, ◌+◌, false, None, OnErr, OnOk, length};
 ghost use Rattle.play_meaning.specs.Commands.{asking_text};
-ghost use Rattle.play_meaning.specs.Games.{Acts, ActsAll, Asks, Quit, Reading as Read, Says, Undo};
+ghost use Rattle.play_meaning.specs.Games.{Acts, ActsAll, Asks, Quit, Says, Undo};
 ghost use Rattle.play_meaning.specs.Progress.{fresh};
 ghost use Rattle.play_meaning.specs.Sessions.{abandoned, goes_on_behind, meant, meant_among};
-ghost use Rattle.action_stages.specs.Answering.{Breaks};
 ghost use Rattle.command_parser.specs.Cutting.{command_count, told_parts};
-ghost use Rattle.command_parser.specs.Readings.{said_text, told as told_of};
+ghost use Rattle.command_parser.specs.Readings.{said_text};
 ghost use Rattle.story_player.specs.Given.{AreGiven, IsGiven, IsLineGiven, said_behind, so_far};
 ghost use Rattle.story_player.specs.KeptWorlds.{HasGoneOn};
 ghost use Rattle.story_player.specs.LineTexts.{most_commands};
-ghost use Rattle.story_player.specs.Turns.{IsToldBehind, deed_answer, done_by, ending_told, kind_told};
-ghost use Rattle.world_store.specs.StoryGrammars.{grammar_of};
+ghost use Rattle.story_player.specs.Turns.{IsTried, deed_answer, done_by, ending_told, kind_told};
 ghost use Rattle.world_store.specs.StorySettings.{setting_of};
 
 use crate::all_things::all_things;
@@ -71,14 +69,13 @@ fn goes_on_behind(kind: ReplyKind) -> bool
 
 impl Session {
     ghost use Rattle.story_player.specs.Refusals.{is_refusal};
-    ghost use Rattle.story_player.specs.Sessions.{game_of, state_of, story_of};
+    ghost use Rattle.story_player.specs.Sessions.{game_of, meant_by, state_of, story_of};
 
     /// What comes of something that is done on the world: where it is abandoned nothing is told, and the world is as it was.
     fn trial(&mut self, deed: &Deed, text: &mut LineText) -> Result<(), Abandon>
         requires room { 0 < text.old.left }
-        ensures told { MatchResult result
-            (λ done. IsToldBehind (done_by deed.now (game_of self.old) (fresh (state_of self.old).world)) (state_of self.new).world text.old.said text.new.said)
-            (Breaks (done_by deed.now (game_of self.old) (fresh (state_of self.old).world))) }
+        ensures told { IsTried result (done_by deed.now (game_of self.old) (fresh (state_of self.old).world))
+            (state_of self.new).world text.old.said text.new.said }
         ensures room { OnOk result (text.new.left + 1 ≡ text.old.left) }
         ensures same { OnErr result (text.new ≡ text.old) }
         ensures behind { OnOk result (HasGoneOn self.old.world self.new.world) }
@@ -269,8 +266,7 @@ impl Session {
     fn answer(&mut self, reading: Reading, text: &mut LineText) -> Given
         requires going { (state_of self.old).ending ≡ None }
         requires room { 0 < text.old.left }
-        ensures answer { IsGiven (game_of self.old) (meant_among (setting_of (story_of self.old)) (state_of self.old).world (told_of (grammar_of (story_of self.old)) reading))
-            (state_of self.old) (state_of self.new) text.old.said text.new.said result }
+        ensures answer { IsGiven (game_of self.old) (meant_by self.old reading) (state_of self.old) (state_of self.new) text.old.said text.new.said result }
         ensures room { text.new.left + 1 ≡ text.old.left }
         ensures game { game_of self.new ≡ game_of self.old }
         ensures story { story_of self.new ≡ story_of self.old }

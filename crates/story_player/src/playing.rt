@@ -1,14 +1,14 @@
 //! Playing a session over a reader and a writer.
 ghost use Rattle.std.specs.Prelude.{◌≡◌, ◌++◌, ◌∷◌, [], false, true, None, Ok, Some, IfErr, IfOk, OnErr, OnOk};
 ghost use Rattle.std.specs.Io.KnownBytes.{Appends, Consumes, IsAtEnd};
-ghost use Rattle.play_meaning.specs.Sessions.{answer_to, opened};
 ghost use Rattle.world_meaning.specs.Texts.{prompt};
 ghost use Rattle.play_meaning.specs.Transcripts.{while_going};
 ghost use Rattle.story_player.specs.Breaks.{Blames};
-ghost use Rattle.story_player.specs.Runs.{BrokeOff, Played, most_input, streams};
+ghost use Rattle.story_player.specs.Runs.{streams};
+ghost use Rattle.story_player.specs.SessionRuns.{IsBrokenOff, IsLastPlayed, IsLineBrokenOff, IsLinePlayed, IsPlayed};
 ghost use Rattle.story_player.specs.Sessions.{game_of, state_of, story_of};
-ghost use Rattle.story_player.specs.Steps.{Answered, AnsweredLast, BrokeAnswer, BrokeLast, BrokeTyping, IsTyping, PlayedLast, PlayedLine, ReadsByte, WroteFront, shown, typed_part};
-ghost use Rattle.story_player.specs.Typed.{flushed, nothing_typed, typed_parts, typed_with};
+ghost use Rattle.story_player.specs.Steps.{AnsweredLast, AnsweredTyped, BrokeLast, BrokeTyped, BrokeTyping, IsTyping, ReadsByte, WroteFront, shown};
+ghost use Rattle.story_player.specs.Typed.{flushed, nothing_typed, typed_with};
 ghost use Rattle.story_player.specs.Watches.{watched_failed, watched_inner};
 
 use crate::fault::RunFault;
@@ -180,13 +180,9 @@ fn answer<W: Write>(
     ensures broke { IfErr result (λ fault. (fault ≡ RunFault.Write) × (watched_failed writer.new ≡ true)) }
     ensures game { game_of session.new ≡ game_of session.old }
     ensures story { story_of session.new ≡ story_of session.old }
-    ensures answered { OnOk result (Answered
-        (λ refused. typed_part (game_of session.old) echo refused (state_of session.old) line.now)
-        (λ refused. (answer_to (game_of session.old) refused (state_of session.old) (typed_parts line.now)).state)
+    ensures answered { OnOk result (AnsweredTyped (game_of session.old) echo (state_of session.old) line.now
         (W.contents (watched_inner writer.old)) (W.contents (watched_inner writer.new)) (state_of session.new)) }
-    ensures front { OnErr result (BrokeAnswer
-        (λ refused. typed_part (game_of session.old) echo refused (state_of session.old) line.now)
-        (λ refused. (answer_to (game_of session.old) refused (state_of session.old) (typed_parts line.now)).state)
+    ensures front { OnErr result (BrokeTyped (game_of session.old) echo (state_of session.old) line.now
         (W.contents (watched_inner writer.old)) (W.contents (watched_inner writer.new)) (state_of session.new)) }
 {
     let reply = session.typed(line.typed());
@@ -248,18 +244,15 @@ fn play_line<R: Read, W: Write>(
     ensures broke { IfErr result (λ fault. Blames fault (watched_failed reader.new) (watched_failed writer.new)) }
     ensures game { game_of session.new ≡ game_of session.old }
     ensures story { story_of session.new ≡ story_of session.old }
-    ensures whole { result ≡ Ok LineEnd.Break → PlayedLine (game_of session.old) echo left.old left.new
+    ensures whole { result ≡ Ok LineEnd.Break → IsLinePlayed echo left.old left.new session.old session.new
         (streams R.remaining W.contents reader.old writer.old)
-        (streams R.remaining W.contents reader.new writer.new)
-        (state_of session.old) (state_of session.new) }
-    ensures last { result ≡ Ok LineEnd.Input → PlayedLast (game_of session.old) echo left.old left.new
+        (streams R.remaining W.contents reader.new writer.new) }
+    ensures last { result ≡ Ok LineEnd.Input → IsLastPlayed echo left.old left.new session.old session.new
         (streams R.remaining W.contents reader.old writer.old)
-        (streams R.remaining W.contents reader.new writer.new)
-        (state_of session.old) (state_of session.new) }
-    ensures cut { IfErr result (λ fault. BrokeOff fault (game_of session.old) echo [] left.old
+        (streams R.remaining W.contents reader.new writer.new) }
+    ensures cut { IfErr result (λ fault. IsLineBrokenOff fault echo left.old session.old session.new
         (streams R.remaining W.contents reader.old writer.old)
-        (streams R.remaining W.contents reader.new writer.new)
-        (state_of session.old) (state_of session.new)) }
+        (streams R.remaining W.contents reader.new writer.new)) }
 {
     prompt(writer, session)?;
     let mut line = TypedLine::new();
@@ -287,17 +280,15 @@ pub fn run<R: Read, W: Write>(
     requires writer { watched_failed writer.old ≡ false }
 
     // A run that comes to its end has written the play of the reader's commands.
-    ensures played { OnOk result (Played (game_of session.old) echo
+    ensures played { OnOk result (IsPlayed echo session.old session.new
         (streams R.remaining W.contents reader.old writer.old)
-        (streams R.remaining W.contents reader.new writer.new)
-        (state_of session.old) (state_of session.new)) }
+        (streams R.remaining W.contents reader.new writer.new)) }
     ensures ended { IfOk result (λ ending. (state_of session.new).ending ≡ Some ending) }
 
     // A run that breaks off has written a front of it.
-    ensures cut { IfErr result (λ fault. BrokeOff fault (game_of session.old) echo (opened (game_of session.old)).text most_input
+    ensures cut { IfErr result (λ fault. IsBrokenOff fault echo session.old session.new
         (streams R.remaining W.contents reader.old writer.old)
-        (streams R.remaining W.contents reader.new writer.new)
-        (state_of session.old) (state_of session.new)) }
+        (streams R.remaining W.contents reader.new writer.new)) }
 
     // It breaks off with the reader's fault exactly where the reader has failed, with the writer's
     // exactly where the writer has.

@@ -1,16 +1,15 @@
 //! Play from a world, the opening or what a command does, and what is told of it.
-ghost use Rattle.std.specs.Prelude.{◌≡◌, ◌≢◌, ◌<◌, ◌+◌, IfErr, IfOk, MatchResult, OnErr, OnOk};
+ghost use Rattle.std.specs.Prelude.{◌≡◌, ◌≢◌, ◌<◌, ◌+◌, IfErr, IfOk, OnErr, OnOk};
 ghost use Rattle.play_meaning.specs.Progress.{fresh};
 ghost use Rattle.play_meaning.specs.Sessions.{abandon_text, parted_by_break};
 ghost use Rattle.standard_rules.specs.HostTables.{rule_count};
 ghost use Rattle.world_meaning.specs.declared.session.Abandon.TheVariants.{Memory};
 ghost use Rattle.world_store.specs.StoryWorlds.{StoryWorld};
-ghost use Rattle.action_stages.specs.Answering.{Breaks};
 ghost use Rattle.action_stages.specs.Returning.{ComesBehind, IsThere, back_at, back_to};
 ghost use Rattle.action_stages.specs.Stages.{back_of, progress_of, tables_of};
 ghost use Rattle.world_store.specs.StoryPlay.{game_in_play};
 ghost use Rattle.story_player.specs.Begun.{IsBegun};
-ghost use Rattle.story_player.specs.Turns.{IsToldBehind, done_by, told_text};
+ghost use Rattle.story_player.specs.Turns.{IsTried, done_by, told_text};
 
 use crate::deed::{Deed, done};
 use crate::fault::StartFault;
@@ -59,7 +58,6 @@ fn tell_of(stage: Stage<'_>, mark: Mark, text: &mut LineText) -> (World, Result<
 }
 
 /// Does something on a world, and tells of it; where it is abandoned nothing is told, and the world is as it was.
-
 pub(crate) fn tried(
     alloc: Global,
     story: &Story,
@@ -73,9 +71,7 @@ pub(crate) fn tried(
     requires told { world.tables ≡ story.now }
     requires index { index.now ≡ story.now }
     requires room { 0 < text.old.left }
-    ensures told { MatchResult result.1
-        (λ done. IsToldBehind (done_by deed.now (game_in_play story.now) (fresh world.world)) result.0.world text.old.said text.new.said)
-        (Breaks (done_by deed.now (game_in_play story.now) (fresh world.world))) }
+    ensures told { IsTried result.1 (done_by deed.now (game_in_play story.now) (fresh world.world)) result.0.world text.old.said text.new.said }
     ensures room { OnOk result.1 (text.new.left + 1 ≡ text.old.left) }
     ensures same { OnErr result.1 (text.new ≡ text.old) }
     ensures story { result.0.tables ≡ story.now }

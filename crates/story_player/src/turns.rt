@@ -1,11 +1,12 @@
 //! Turns and the opening over a stage: their parts in order, each of which is skipped once the story has ended.
 ghost use Rattle.std.specs.Prelude.{◌≡◌, [], ◌∷◌, Ok};
-ghost use Rattle.play_meaning.specs.Consulting.{every_turn_book, play_begins_book};
+ghost use Rattle.play_meaning.specs.Consulting.{every_turn_book};
 ghost use Rattle.play_meaning.specs.Turns.{behind_action, count_turn, follow, look_round, opening, parts, pass, perform, turn, unless_over};
 ghost use Rattle.action_stages.specs.Answering.{Answers};
 ghost use Rattle.action_stages.specs.Returning.{IsThere};
 ghost use Rattle.action_stages.specs.Stages.{back_of, progress_of, story_of, tables_of};
 ghost use Rattle.world_store.specs.StoryPlay.{game_in_play};
+ghost use Rattle.story_player.specs.Begun.{begin_play};
 
 use action_stages::{Stage, count_turn, follow, perform};
 use play_meaning::standard_actions::LOOKING;
@@ -162,8 +163,7 @@ pub(crate) fn turn(alloc: Global, stage: &mut Stage<'_>, now: ActionNow) -> Resu
 fn begin_play(alloc: Global, stage: &mut Stage<'_>) -> Result<(), Abandon>
     requires told { tables_of stage.old ≡ story_of stage.old }
     requires there { IsThere (back_of stage.old) }
-    ensures answer { Answers result (λ done. progress_of stage.new)
-        (parts (follow (game_in_play (story_of stage.old)) play_begins_book ∷ perform (game_in_play (story_of stage.old)) look_round ∷ []) (progress_of stage.old)) }
+    ensures answer { Answers result (λ done. progress_of stage.new) (begin_play (game_in_play (story_of stage.old)) (progress_of stage.old)) }
     ensures story { story_of stage.new ≡ story_of stage.old }
     ensures tables { tables_of stage.new ≡ story_of stage.old }
     ensures back { back_of stage.new ≡ back_of stage.old }

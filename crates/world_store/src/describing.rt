@@ -1,9 +1,6 @@
 //! What the descriptions of objects say.
-ghost use Rattle.std.specs.Prelude.{◌≡◌, ◌≢◌, Err, MatchResult, Ok, Some};
-ghost use Rattle.play_meaning.specs.PlainStories.{plain_telling};
-ghost use Rattle.play_meaning.specs.Saying.{description_in};
-ghost use Rattle.world_meaning.specs.declared.session.Abandon.TheVariants.{Memory};
-ghost use Rattle.world_store.specs.StoryGames.{plain_story};
+ghost use Rattle.story_code.specs.Runs.{Tells};
+ghost use Rattle.world_store.specs.StoryGames.{DescriptionIs};
 
 use crate::World;
 use play_meaning::ActionNow;
@@ -23,9 +20,7 @@ impl World {
         now: &ActionNow,
         object: ObjNo,
     ) -> Result<Vec<u8>, Abandon>
-        ensures { MatchResult result
-            (λ said. description_in (plain_telling (plain_story self.now.tables)) now.now self.now.world (Some object) ≡ Ok said.items)
-            (λ reason. reason ≢ Memory → description_in (plain_telling (plain_story self.now.tables)) now.now self.now.world (Some object) ≡ Err reason) }
+        ensures { Tells (DescriptionIs self.now now.now object) (λ said. said.items) result }
     {
         let codes = self.story().codes();
         description(alloc, self, codes, now, Some(object))
