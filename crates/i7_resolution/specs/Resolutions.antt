@@ -16,7 +16,7 @@ use Rattle.i7_grammar.specs.declared.grammar.Grammar.{Grammar}
 use Rattle.i7_grammar.specs.declared.grammar.GrammarFound.{GrammarFound}
 use Rattle.i7_grammar.specs.declared.grammar.GrammarFound.TheVariants as spoken
 use Rattle.i7_names.specs.declared.source_names.SourceNames.{SourceNames}
-use Rattle.i7_rules.specs.Knowns.{Known, scope_near}
+use Rattle.i7_rules.specs.Knowns.{Known}
 use Rattle.i7_rules.specs.SourceRules.{IsRulesFound}
 use Rattle.i7_rules.specs.declared.source_rules.RulesFound.{RulesFound}
 use Rattle.i7_rules.specs.declared.source_rules.RulesFound.TheVariants as ruled
@@ -136,9 +136,9 @@ with_actions sentences told =
     with_fault Twice (book_twice (actions_in sentences) sentences)
     (with_fault Twice (action_twice (actions_declared sentences)) (with_fault TooMany (action_over (actions_declared sentences)) told))
 
--- what the sentences that tell what commands mean may name: actions and objects, and no repeat stands around them
+-- what the sentences that tell what commands mean may name: actions and objects
 abbrev pub naming_of : Known → Naming
-naming_of k = record { scope = scope_near k []; actions = k.actions; objects = k.objects }
+naming_of k = record { meanings = k.meanings; actions = k.actions; objects = k.objects }
 
 -- what is told of a source by what is told of its rules, of its texts, of the sentences that list rules, of its scenes, of each of which
 -- it is declared whether it may happen again, and of what commands and words mean
