@@ -9,7 +9,7 @@ use Rattle.i7_lexer.specs.declared.token.Token.{Token}
 use Rattle.i7_sentences.specs.contracts.keyword.Keyword.{the_type}
 use Rattle.i7_sentences.specs.Words.{is_word, is_text}
 use Rattle.i7_sentences.specs.Keywords.{is_article, is_same, is_sign, keyword_of}
-use Rattle.i7_sentences.specs.Classes.{is_asked, is_degree, IsRun, IsAlone, IsListed, IsNames, IsOf, is_joint, is_name_word, is_vertical, is_direction, is_inner, is_behind, is_side, is_number, is_choice, is_head_token, is_body, opens_phrase}
+use Rattle.i7_sentences.specs.Classes.{is_asked, is_degree, IsRun, IsAlone, IsListed, IsNames, IsOf, is_joint, is_name_word, is_vertical, is_direction, is_inner, is_behind, is_side, is_number, is_choice, is_head_token, is_body, is_body_mark}
 use Rattle.i7_sentences.specs.Classes.IsNames.{one_name, more_names}
 use Rattle.i7_sentences.specs.Automata.{accepts, alone_step, asked_step, body_step, is_of, names_step, run_step, runs, side_start, side_step, step, then_runs}
 use Rattle.i7_sentences.specs.declared.keyword.Keyword.{Keyword}
@@ -217,41 +217,33 @@ unfolding body_step
 body_inside [] = refl
 body_inside (token ∷ tokens) = body_inside tokens
 
-body_by : (colon comma : Bool) (tokens : List Token) → then_runs (if colon then Some Between else (if comma then Some Beside else None)) (λ after. runs class.Body after tokens) ≡ (if colon then runs class.Body Between tokens else (comma && runs class.Body Beside tokens))
-body_by true comma tokens = refl
-body_by false true tokens = refl
-body_by false false tokens = refl
+body_by : (marks : Bool) (tokens : List Token) → then_runs (if marks then Some Between else None) (λ after. runs class.Body after tokens) ≡ (marks && runs class.Body Between tokens)
+body_by true tokens = refl
+body_by false tokens = refl
 
-body_opens : (mark : Token) (tokens : List Token) → is_of class.Body (mark ∷ tokens) ≡ (if is_sign keyword.Colon mark then runs class.Body Between tokens else (is_sign keyword.Comma mark && runs class.Body Beside tokens))
+body_opens : (mark : Token) (tokens : List Token) → is_of class.Body (mark ∷ tokens) ≡ (is_body_mark mark && runs class.Body Between tokens)
 unfolding body_step
-body_opens mark tokens = body_by (is_sign keyword.Colon mark) (is_sign keyword.Comma mark) tokens
+body_opens mark tokens = body_by (is_body_mark mark) tokens
 
 body_between : (token : Token) (tokens : List Token) → runs class.Body Between (token ∷ tokens) ≡ true
 unfolding body_step
 body_between token tokens = body_inside tokens
 
-body_beside : (token : Token) (tokens : List Token) → runs class.Body Beside (token ∷ tokens) ≡ opens_phrase token
-unfolding body_step
-body_beside token tokens =
-    let Goal : Bool → Type 0 = λ opens. then_runs (run_step opens) (λ after. runs class.Body after tokens) ≡ opens
-    in elim (opens_phrase token) as Goal [ true ↦ body_inside tokens | false ↦ refl ]
+and_false : (marks : Bool) → (marks && false) ≡ false
+and_false true = refl
+and_false false = refl
 
-body_none : (colon comma : Bool) → (if colon then false else (comma && false)) ≡ false
-body_none true comma = refl
-body_none false true = refl
-body_none false false = refl
-
-body_some : (colon comma opens : Bool) → (if colon then true else (comma && opens)) ≡ (colon || (comma && opens))
-body_some true comma opens = refl
-body_some false comma opens = refl
+and_true : (marks : Bool) → (marks && true) ≡ marks
+and_true true = refl
+and_true false = refl
 
 body_same : (tokens : List Token) → is_of class.Body tokens ≡ is_body tokens
 body_same [] = refl
-body_same (mark ∷ []) = body_opens mark [] ∙ body_none (is_sign keyword.Colon mark) (is_sign keyword.Comma mark)
+body_same (mark ∷ []) = body_opens mark [] ∙ and_false (is_body_mark mark)
 body_same (mark ∷ token ∷ tokens) =
     body_opens mark (token ∷ tokens)
-    ∙ (λ i. if is_sign keyword.Colon mark then body_between token tokens i else (is_sign keyword.Comma mark && body_beside token tokens i))
-    ∙ body_some (is_sign keyword.Colon mark) (is_sign keyword.Comma mark) (opens_phrase token)
+    ∙ ap (λ (b : Bool). is_body_mark mark && b) (body_between token tokens)
+    ∙ and_true (is_body_mark mark)
 
 -- `thing` tells nothing of how near it must be
 thing_signs : (found : Option Keyword) → is_same found keyword.Thing ≡ true → (is_same found keyword.Visible || is_same found keyword.Carried) ≡ false

@@ -5,53 +5,31 @@ use Rattle.std.specs.List.{list_any}
 use Rattle.std.proofs.lemmas.Option.{same_Some}
 use Rattle.i7_lexer.specs.declared.token.Token.{Token}
 use Rattle.i7_sentences.specs.Cuts.{Piece}
-use Rattle.i7_sentences.specs.Forms.{Variant}
 use Rattle.i7_sentences.specs.Matching.{Found}
 use Rattle.i7_sentences.specs.Names.{Words}
 use Rattle.i7_sentences.specs.Read.{heard_found, heard_in, heard_of, reserved_at, reserved_in, unread_at, unread_in}
 use Rattle.i7_sentences.specs.Sources.{HasBadLiteral, HasReservedName, HoldsBadLiteral, IsUnreadAt, Says, SaysInWords}
 use Rattle.i7_sentences.specs.Stretches.{Stretch, bad_literal_in, bad_literal_of, holds_bad_literal, stretches_of}
-use Rattle.i7_sentences.specs.ValueFits.{read_with}
-use Rattle.i7_sentences.specs.ValueForms.{IsReadWith, IsUnreadWith}
+use Rattle.i7_sentences.specs.Understood.{understood_by}
 use Rattle.i7_sentences.specs.declared.heard.Heard.{Heard}
 use Rattle.i7_sentences.specs.declared.heard.Heard.TheVariants as heard
 use Rattle.i7_sentences.specs.declared.part.PartKind.{PartKind}
 use Rattle.i7_sentences.specs.declared.part.PartKind.TheVariants.{Title, Heading, Sentence as Said}
 use Rattle.i7_sentences.proofs.Lowest.{Tells, lowest_tells, none-some}
-use Rattle.i7_sentences.proofs.ReadingWith.{ReadWith, found_with, not_both, read_same}
-
--- the reading is what is found
-pub reading_found : (kinds : List Words) (tokens : List Token) (variant : Variant) (letters : List (List Token)) → IsReadWith kinds tokens variant letters → read_with kinds tokens ≡ Some (record { variant = variant; letters = letters })
-reading_found kinds tokens variant letters reading =
-    let Goal : Option Found → Type 0 = λ found. ReadWith kinds tokens found → found ≡ Some (record { variant = variant; letters = letters })
-    in (elim (read_with kinds tokens) as Goal [
-      | None ↦ λ unread. absurd (not_both kinds tokens variant letters reading unread)
-      | Some found ↦ λ read.
-          let same = read_same kinds tokens found.variant variant found.letters letters read reading in
-          (λ i. Some (record { variant = same.0 i; letters = same.1 i }))
-    ]) (found_with kinds tokens)
-
--- where no form reads words, none is found
-unread_found : (kinds : List Words) (tokens : List Token) → IsUnreadWith kinds tokens → read_with kinds tokens ≡ None
-unread_found kinds tokens unread =
-    let Goal : Option Found → Type 0 = λ found. ReadWith kinds tokens found → found ≡ None
-    in (elim (read_with kinds tokens) as Goal [
-      | None ↦ λ none. refl
-      | Some found ↦ λ read. absurd (not_both kinds tokens found.variant found.letters read unread)
-    ]) (found_with kinds tokens)
+use Rattle.i7_sentences.proofs.Understood.{Understood, found_understood, understood_is_found, unread_not_found}
 
 -- what is heard of words is what they say
-words_say : (kinds : List Words) (tokens : List Token) → SaysInWords kinds tokens (heard_found kinds tokens (read_with kinds tokens))
+words_say : (kinds : List Words) (tokens : List Token) → SaysInWords kinds tokens (heard_found kinds tokens (understood_by kinds tokens))
 words_say kinds tokens =
-    let Goal : Option Found → Type 0 = λ found. ReadWith kinds tokens found → SaysInWords kinds tokens (heard_found kinds tokens found)
-    in (elim (read_with kinds tokens) as Goal [
+    let Goal : Option Found → Type 0 = λ found. Understood kinds tokens found → SaysInWords kinds tokens (heard_found kinds tokens found)
+    in (elim (understood_by kinds tokens) as Goal [
       | None ↦ λ unread. inr (unread, refl)
       | Some found ↦ λ read. inl (record { variant = found.variant; letters = found.letters; reading = read; says = refl })
-    ]) (found_with kinds tokens)
+    ]) (found_understood kinds tokens)
 
-words_heard : (kinds : List Words) (tokens : List Token) (said : Heard) → SaysInWords kinds tokens said → said ≡ heard_found kinds tokens (read_with kinds tokens)
-words_heard kinds tokens said (inl reads) = reads.says ∙ sym (ap (heard_found kinds tokens) (reading_found kinds tokens reads.variant reads.letters reads.reading))
-words_heard kinds tokens said (inr unread) = unread.1 ∙ sym (ap (heard_found kinds tokens) (unread_found kinds tokens unread.0))
+words_heard : (kinds : List Words) (tokens : List Token) (said : Heard) → SaysInWords kinds tokens said → said ≡ heard_found kinds tokens (understood_by kinds tokens)
+words_heard kinds tokens said (inl reads) = reads.says ∙ sym (ap (heard_found kinds tokens) (understood_is_found kinds tokens reads.variant reads.letters reads.reading))
+words_heard kinds tokens said (inr unread) = unread.1 ∙ sym (ap (heard_found kinds tokens) (unread_not_found kinds tokens unread.0))
 
 kind_says : (kinds : List Words) (kind : PartKind) (tokens : List Token) → Says kinds kind tokens (heard_of kinds kind tokens)
 kind_says kinds Title tokens = refl

@@ -30,4 +30,5 @@ pub mod BestFits
 pub mod Valuing
 pub mod ValueKinds
 pub mod ReadingWith
+pub mod Understood
 pub mod KindsDeclared

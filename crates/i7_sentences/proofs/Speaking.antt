@@ -13,14 +13,16 @@ use Rattle.i7_lexer.specs.declared.token.TokenKind.TheVariants.{Text, Word as AW
 use Rattle.i7_sentences.specs.Assertions.{assertion_of, described, described_object, door_between, is_asserting, is_describing, is_describing_kind, describing_text, describing_text_in, side_direction, side_of, way_assertion}
 use Rattle.i7_sentences.specs.Classes.{IsOf, is_direction, is_behind, is_vertical}
 use Rattle.i7_sentences.specs.Cuts.{Piece as Part, line_in}
-use Rattle.i7_sentences.specs.Forms.{Fits, IsReading, Variant, higher_forms, lower_forms}
+use Rattle.i7_sentences.specs.Forms.{Fits, IsReading, Variant, higher_forms, lower_forms, middle_forms}
 use Rattle.i7_sentences.specs.Keywords.{is_sign}
 use Rattle.i7_sentences.specs.Names.{Words}
 use Rattle.i7_sentences.specs.Read.{heard_by, named_heard, plain_heard}
 use Rattle.i7_sentences.specs.Reserved.{has_reserved_among}
 use Rattle.i7_sentences.specs.RuleHeads.{is_rule_form}
 use Rattle.i7_sentences.specs.Sources.{IsSpeaking, Says, SaysInWords}
-use Rattle.i7_sentences.specs.ValueForms.{IsReadWith, IsValueReading, ValueForm, value_forms}
+use Rattle.i7_sentences.specs.Rules.{rule_heard}
+use Rattle.i7_sentences.specs.Understood.{IsUnderstoodBy, is_lost, is_unread}
+use Rattle.i7_sentences.specs.ValueForms.{IsReadLater, IsReadWith, IsValueReading, ValueForm, value_forms}
 use Rattle.i7_sentences.specs.Words.{direction_named, is_text_kind, word_of}
 use Rattle.i7_sentences.specs.declared.action_form.ActionSort.TheVariants as sort
 use Rattle.i7_sentences.specs.declared.action_form.TheConstants.{ACTION_FORMS}
@@ -35,7 +37,8 @@ use Rattle.i7_sentences.specs.declared.heard.Heard.TheVariants as heard
 use Rattle.i7_sentences.specs.declared.part.PartKind.{PartKind}
 use Rattle.i7_sentences.specs.declared.part.PartKind.TheVariants.{Title, Heading, Sentence as Said}
 use Rattle.i7_sentences.specs.declared.sentence.Assertion.{Assertion}
-use Rattle.i7_sentences.proofs.ReadingWith.{not_both, read_same}
+use Rattle.i7_sentences.proofs.Ends.{and_left}
+use Rattle.i7_sentences.proofs.Understood.{understood_or_not, understood_same}
 
 abbrev Each : {X : Type 0} → (X → Type 0) → List X → Type 0
 Each P [] = Unit {0}
@@ -210,7 +213,11 @@ actions_speak = (
 
 lower_speak : Each (Each Speaks) lower_forms
 unfolding lower_forms assertion_of
-lower_speak = ((one _ form.Description (λ a is plain kinds. described_said (describing_text a) (text_describes a is plain)), tt), ((λ letters are. never, tt), ((λ letters are. never, tt), ((λ letters are. never, tt), ((λ letters are. never, tt), ((λ letters are. never, tt), ((λ letters are. never, tt), ((λ letters are. never, tt), ((λ letters are. never, (λ letters are. never, tt)), ((λ letters are. never, (λ letters are. never, tt)), ((λ letters are. never, (λ letters are. never, tt)), ((λ letters are. never, (λ letters are. never, tt)), ((λ letters are. never, (λ letters are. never, tt)), ((λ letters are. never, (λ letters are. never, tt)), ((two _ _ form.ListedFirst (λ a b first second plain kinds. refl), (two _ _ form.ListedLast (λ a b first second plain kinds. refl), (one _ form.NotListed (λ a is plain kinds. refl), tt))), (actions_speak, ((one _ form.Rulebook (λ a is plain kinds. refl), tt), ((one _ form.Scene (λ a is plain kinds. refl), (one _ form.RecurringScene (λ a is plain kinds. refl), tt)), tt))))))))))))))))))
+lower_speak = ((one _ form.Description (λ a is plain kinds. described_said (describing_text a) (text_describes a is plain)), tt), ((λ letters are. never, tt), ((λ letters are. never, tt), ((λ letters are. never, tt), ((λ letters are. never, tt), ((λ letters are. never, tt), ((λ letters are. never, tt), ((λ letters are. never, tt), ((λ letters are. never, (λ letters are. never, tt)), ((λ letters are. never, (λ letters are. never, tt)), ((λ letters are. never, (λ letters are. never, tt)), ((λ letters are. never, (λ letters are. never, tt)), ((λ letters are. never, (λ letters are. never, tt)), tt)))))))))))))
+
+middle_speak : Each (Each Speaks) middle_forms
+unfolding middle_forms assertion_of
+middle_speak = ((λ letters are. never, (λ letters are. never, tt)), ((two _ _ form.ListedFirst (λ a b first second plain kinds. refl), (two _ _ form.ListedLast (λ a b first second plain kinds. refl), (one _ form.NotListed (λ a is plain kinds. refl), tt))), (actions_speak, ((one _ form.Rulebook (λ a is plain kinds. refl), tt), ((one _ form.Scene (λ a is plain kinds. refl), (one _ form.RecurringScene (λ a is plain kinds. refl), tt)), tt)))))
 
 higher_speak : Each (Each Speaks) higher_forms
 unfolding higher_forms assertion_of
@@ -235,10 +242,14 @@ value_speaks kinds tokens variant letters read asserts plain =
     subst (λ (v : Variant). IsSaid v.form letters) (sym read.is_variant)
     (own letters (letters_are read.form.variant.pieces tokens letters read.reads.fits.fits plain) (subst (λ (v : Variant). is_asserting v.form ≡ true) read.is_variant asserts))
 
+speaks_later : (kinds : List Words) (tokens : List Token) (variant : Variant) (letters : List (List Token)) → IsReadLater kinds tokens variant letters → is_asserting variant.form ≡ true → AreDescribing tokens → IsSaid variant.form letters
+speaks_later kinds tokens variant letters (inl reading) asserts plain = speaks middle_forms tokens variant letters middle_speak reading asserts plain
+speaks_later kinds tokens variant letters (inr (inl read)) asserts plain = value_speaks kinds tokens variant letters read.1 asserts plain
+speaks_later kinds tokens variant letters (inr (inr reading)) asserts plain = speaks higher_forms tokens variant letters higher_speak reading.2 asserts plain
+
 speaks_with : (kinds : List Words) (tokens : List Token) (variant : Variant) (letters : List (List Token)) → IsReadWith kinds tokens variant letters → is_asserting variant.form ≡ true → AreDescribing tokens → IsSaid variant.form letters
 speaks_with kinds tokens variant letters (inl reading) asserts plain = speaks lower_forms tokens variant letters lower_speak reading asserts plain
-speaks_with kinds tokens variant letters (inr (inl read)) asserts plain = value_speaks kinds tokens variant letters read.1 asserts plain
-speaks_with kinds tokens variant letters (inr (inr reading)) asserts plain = speaks higher_forms tokens variant letters higher_speak reading.2 asserts plain
+speaks_with kinds tokens variant letters (inr reading) asserts plain = speaks_later kinds tokens variant letters reading.1 asserts plain
 
 -- a form that asserts is no rule's
 no_rule : (form : Form) → is_asserting form ≡ true → is_rule_form form ≡ false
@@ -255,6 +266,13 @@ no_rule form.SceneEndsRule asserts = absurd (false≢true asserts)
 no_rule form.OwnRule asserts = absurd (false≢true asserts)
 no_rule _ asserts = refl
 
+speaks_so : (kinds : List Words) (tokens : List Token) (variant : Variant) (letters : List (List Token)) → IsUnderstoodBy kinds tokens variant letters → is_asserting variant.form ≡ true → AreDescribing tokens → IsSaid variant.form letters
+unfolding is_lost
+speaks_so kinds tokens variant letters (inl kept) asserts plain = speaks_with kinds tokens variant letters kept.0 asserts plain
+speaks_so kinds tokens variant letters (inr (inl taken)) asserts plain = speaks_later kinds tokens variant letters taken.1 asserts plain
+speaks_so kinds tokens variant letters (inr (inr left)) asserts plain =
+    absurd (false≢true (sym (no_rule variant.form asserts) ∙ and_left (is_rule_form variant.form) (is_unread (rule_heard tokens)) left.0.1))
+
 named_read : (line at : ℕ) (is_reserved : Bool) (said : Assertion) → named_heard line is_reserved said ≡ heard.Unread at → ⊥
 named_read line at true said is = cc
 named_read line at false said is = cc
@@ -266,17 +284,17 @@ plain_read line at is_reserved (Some said) there is = named_read line at is_rese
 by_form : (kinds : List Words) (tokens : List Token) (variant : Variant) (letters : List (List Token)) → is_asserting variant.form ≡ true → heard_by kinds tokens variant letters ≡ plain_heard (line_in tokens) (has_reserved_among variant.pieces letters) (assertion_of kinds variant.form letters)
 by_form kinds tokens variant letters asserts = rw (no_rule variant.form asserts) refl
 
-words_read : (kinds : List Words) (tokens : List Token) (variant : Variant) (letters : List (List Token)) (line : ℕ) → IsReadWith kinds tokens variant letters → is_asserting variant.form ≡ true → AreDescribing tokens → SaysInWords kinds tokens (heard.Unread line) → ⊥
+words_read : (kinds : List Words) (tokens : List Token) (variant : Variant) (letters : List (List Token)) (line : ℕ) → IsUnderstoodBy kinds tokens variant letters → is_asserting variant.form ≡ true → AreDescribing tokens → SaysInWords kinds tokens (heard.Unread line) → ⊥
 words_read kinds tokens variant letters line reading asserts plain (inl reads) =
-    let same = read_same kinds tokens reads.variant variant reads.letters letters reads.reading reading in
-    plain_read (line_in tokens) line (has_reserved_among variant.pieces letters) (assertion_of kinds variant.form letters) (speaks_with kinds tokens variant letters reading asserts plain kinds)
+    let same = understood_same kinds tokens reads.variant variant reads.letters letters reads.reading reading in
+    plain_read (line_in tokens) line (has_reserved_among variant.pieces letters) (assertion_of kinds variant.form letters) (speaks_so kinds tokens variant letters reading asserts plain kinds)
     (sym (by_form kinds tokens variant letters asserts) ∙ sym (λ i. heard_by kinds tokens (same.0 i) (same.1 i)) ∙ sym reads.says)
-words_read kinds tokens variant letters line reading asserts plain (inr unread) = not_both kinds tokens variant letters reading unread.0
+words_read kinds tokens variant letters line reading asserts plain (inr unread) = understood_or_not kinds tokens variant letters reading unread.0
 
-kind_read : (kinds : List Words) (kind : PartKind) (tokens : List Token) (variant : Variant) (letters : List (List Token)) (line : ℕ) → IsReadWith kinds tokens variant letters → is_asserting variant.form ≡ true → AreDescribing tokens → Says kinds kind tokens (heard.Unread line) → ⊥
+kind_read : (kinds : List Words) (kind : PartKind) (tokens : List Token) (variant : Variant) (letters : List (List Token)) (line : ℕ) → IsUnderstoodBy kinds tokens variant letters → is_asserting variant.form ≡ true → AreDescribing tokens → Says kinds kind tokens (heard.Unread line) → ⊥
 kind_read kinds Title tokens variant letters line reading asserts plain says = cc
 kind_read kinds Heading tokens variant letters line reading asserts plain says = cc
 kind_read kinds Said tokens variant letters line reading asserts plain says = words_read kinds tokens variant letters line reading asserts plain says
 
-pub never_silent : (kinds : List Words) (part : Part) (variant : Variant) (letters : List (List Token)) → IsReadWith kinds part.tokens variant letters → IsSpeaking kinds variant part
+pub never_silent : (kinds : List Words) (part : Part) (variant : Variant) (letters : List (List Token)) → IsUnderstoodBy kinds part.tokens variant letters → IsSpeaking kinds variant part
 never_silent kinds part variant letters reading asserts plain line says = kind_read kinds part.kind part.tokens variant letters line reading asserts plain says

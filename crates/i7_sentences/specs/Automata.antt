@@ -3,7 +3,7 @@ use Rattle.std.specs.Prelude.{Bool, true, false, List, [], ◌∷◌, Option, So
 use Rattle.i7_lexer.specs.declared.token.Token.{Token}
 use Rattle.i7_sentences.specs.Words.{is_word, is_text}
 use Rattle.i7_sentences.specs.Keywords.{is_article, is_sign}
-use Rattle.i7_sentences.specs.Classes.{is_degree, is_joint, is_name_word, is_vertical, is_direction, is_inner, is_number, is_choice, is_head_token, opens_phrase}
+use Rattle.i7_sentences.specs.Classes.{is_degree, is_joint, is_name_word, is_vertical, is_direction, is_inner, is_number, is_body_mark, is_choice, is_head_token}
 use Rattle.i7_sentences.specs.declared.keyword.Keyword.TheVariants as keyword
 use Rattle.i7_sentences.specs.declared.class.Class.{Class}
 use Rattle.i7_sentences.specs.declared.class.Class.TheVariants as class
@@ -42,10 +42,10 @@ side_step Beside token = if is_sign keyword.Of token then Some Inside else (if i
 
 -- `:` and anything, or `,` and a word that begins a phrase
 unfoldable pub body_step : State → Token → Option State
-body_step Start token = if is_sign keyword.Colon token then Some Between else (if is_sign keyword.Comma token then Some Beside else None)
+body_step Start token = if is_body_mark token then Some Between else None
 body_step Inside token = Some Inside
 body_step Between token = Some Inside
-body_step Beside token = run_step (opens_phrase token)
+body_step Beside token = None
 
 -- `thing`, perhaps behind how near it must be
 unfoldable pub asked_step : State → Token → Option State

@@ -1,13 +1,11 @@
 -- The classes of words that a form's letters stand for.
 use Rattle.std.specs.Prelude.{◌≡◌, ◌≢◌, Bool, true, false, not, ◌&&◌, ◌||◌, List, [], ◌∷◌, ◌++◌, is_some}
-use Rattle.std.specs.List.{list_all, list_any}
-use Rattle.world_meaning.specs.Spelling.{is_spelled}
+use Rattle.std.specs.List.{list_all}
 use Rattle.i7_lexer.specs.declared.token.Token.{Token}
 use Rattle.i7_sentences.specs.Words.{word_of, is_word, is_text, direction_named}
 use Rattle.i7_sentences.specs.Keywords.{is_article, is_sign}
 use Rattle.i7_sentences.specs.Literals.{is_literal}
 use Rattle.i7_sentences.specs.declared.keyword.Keyword.TheVariants as keyword
-use Rattle.i7_sentences.specs.declared.class.TheConstants.{PHRASES}
 use Rattle.i7_sentences.specs.declared.class.Class.{Class}
 use Rattle.i7_sentences.specs.declared.class.Class.TheVariants as class
 
@@ -71,15 +69,15 @@ is_choice token = is_text token || is_sign keyword.Or token
 unfoldable pub is_head_token : Token → Bool
 is_head_token token = is_word token || is_sign keyword.Open token || is_sign keyword.Close token
 
--- a phrase may begin with this word
-unfoldable pub opens_phrase : Token → Bool
-opens_phrase token = list_any (λ opener. is_spelled (word_of token) opener.now) PHRASES
+-- what ends a rule's head: `:` or `,`
+unfoldable pub is_body_mark : Token → Bool
+is_body_mark token = is_sign keyword.Colon token || is_sign keyword.Comma token
 
--- what stands behind a rule's head: `:` and something, or `,` and what begins as a phrase does
+-- what stands behind a rule's head: its mark and something
 abbrev pub is_body : List Token → Bool
 is_body [] = false
 is_body (mark ∷ []) = false
-is_body (mark ∷ first ∷ more) = is_sign keyword.Colon mark || (is_sign keyword.Comma mark && opens_phrase first)
+is_body (mark ∷ first ∷ more) = is_body_mark mark
 
 -- how near a thing must be: seen, or carried
 unfoldable pub is_degree : Token → Bool

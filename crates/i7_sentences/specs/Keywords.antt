@@ -6,6 +6,7 @@ use Rattle.world_meaning.specs.Spelling.{is_spelled}
 use Rattle.i7_lexer.specs.declared.token.Token.{Token}
 use Rattle.i7_lexer.specs.declared.token.TokenKind.{TokenKind}
 use Rattle.i7_lexer.specs.declared.token.TokenKind.TheVariants.{Text, Word, Mark}
+use Rattle.i7_sentences.specs.Words.{as_read}
 use Rattle.i7_sentences.specs.contracts.keyword.Keyword.{the_type}
 use Rattle.i7_sentences.specs.declared.keyword.Keyword.{Keyword}
 use Rattle.i7_sentences.specs.declared.keyword.TheConstants.{KEYWORDS, ARTICLES, RESERVED}
@@ -33,7 +34,7 @@ keyword_spelled word = keyword_among word (slice_get all_keywords (length word))
 
 abbrev pub keyword_in_kind : TokenKind → Option Keyword
 keyword_in_kind (Text text) = None
-keyword_in_kind (Word word) = keyword_spelled word
+keyword_in_kind (Word word) = keyword_spelled (as_read word)
 keyword_in_kind (Mark mark) = keyword_spelled (mark ∷ [])
 
 -- the keyword that a token is, if it is one

@@ -3,7 +3,7 @@ use Rattle.std.specs.Prelude.{◌-◌, Bool, false, ◌||◌, List, [], ◌∷�
 use Rattle.std.specs.List.{filter_map, list_any}
 use Rattle.i7_lexer.specs.declared.token.Token.{Token}
 use Rattle.i7_sentences.specs.Cuts.{Piece}
-use Rattle.i7_sentences.specs.Forms.{Variant, lower_forms}
+use Rattle.i7_sentences.specs.Forms.{Variant, middle_forms}
 use Rattle.i7_sentences.specs.Keywords.{is_sign}
 use Rattle.i7_sentences.specs.Matching.{best_fit, first_fit, lowest_fit}
 use Rattle.i7_sentences.specs.Names.{named_in, Words}
@@ -32,9 +32,9 @@ first_name (Some (name ∷ letters)) = Some (named_in name)
 abbrev pub declared_by : PartKind → List Token → Option Words
 declared_by Title tokens = None
 declared_by Heading tokens = None
-declared_by Sentence tokens = if is_some (lowest_fit lower_forms tokens) then None else first_name (first_fit KIND_OF_VALUE.now tokens)
+declared_by Sentence tokens = if is_some (lowest_fit middle_forms tokens) then None else first_name (first_fit KIND_OF_VALUE.now tokens)
 
--- the kind of value that a sentence declares which no lower form reads
+-- the kind of value that a sentence declares which no middle form reads; no lower form reads such words
 abbrev pub declared_in : Piece → Option Words
 declared_in part = declared_by part.kind part.tokens
 

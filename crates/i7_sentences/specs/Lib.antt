@@ -39,6 +39,7 @@ pub mod Stretches
 pub mod Tags
 pub mod TextPieces
 pub mod Understandings
+pub mod Understood
 pub mod ValueAssertions
 pub mod ValueFits
 pub mod ValueForms

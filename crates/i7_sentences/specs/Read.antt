@@ -16,7 +16,7 @@ use Rattle.i7_sentences.specs.Reserved.{has_reserved_among}
 use Rattle.i7_sentences.specs.RuleHeads.{is_rule_form}
 use Rattle.i7_sentences.specs.Rules.{rule_heard}
 use Rattle.i7_sentences.specs.Stretches.{bad_literal_of}
-use Rattle.i7_sentences.specs.ValueFits.{read_with}
+use Rattle.i7_sentences.specs.Understood.{understood_by}
 use Rattle.i7_sentences.specs.declared.heard.Heard.{Heard}
 use Rattle.i7_sentences.specs.declared.heard.Heard.TheVariants.{Says, Unread, Reserved}
 use Rattle.i7_sentences.specs.declared.part.PartKind.{PartKind}
@@ -38,7 +38,7 @@ plain_heard line is_reserved (Some said) = named_heard line is_reserved said
 abbrev pub plain_found : ℕ → List Words → Variant → List (List Token) → Heard
 plain_found line kinds variant letters = plain_heard line (has_reserved_among variant.pieces letters) (assertion_of kinds variant.form letters)
 
--- what a sentence says that is read by this variant of a form, where these kinds of value are declared
+-- what a sentence says that is understood by this variant of a form, where these kinds of value are declared
 abbrev pub heard_by : List Words → List Token → Variant → List (List Token) → Heard
 heard_by kinds tokens variant letters =
     if is_rule_form variant.form then rule_heard tokens
@@ -52,7 +52,7 @@ heard_found kinds tokens (Some found) = heard_by kinds tokens found.variant foun
 abbrev pub heard_of : List Words → PartKind → List Token → Heard
 heard_of kinds Title tokens = Says Aside
 heard_of kinds Heading tokens = Says Aside
-heard_of kinds Said tokens = heard_found kinds tokens (read_with kinds tokens)
+heard_of kinds Said tokens = heard_found kinds tokens (understood_by kinds tokens)
 
 -- what a part says, or the line at which it is refused
 unfoldable pub heard_in : List Words → Piece → Heard

@@ -84,8 +84,9 @@ book_of named.SceneBegins letter = book.SceneBegins (words_in letter)
 book_of named.SceneEnds letter = book.SceneEnds (words_in letter)
 book_of named.Own letter = book.Own (named_in letter)
 
+-- the rule's name, without the free article
 abbrev pub name_if : Bool → List Token → Option (List (List ℕ))
-name_if is_named letter = if is_named then Some (words_in letter) else None
+name_if is_named letter = if is_named then Some (named_in letter) else None
 
 -- how many tokens stand behind the mark with which the last letter begins
 abbrev pub body_len : List Token → ℕ

@@ -13,7 +13,8 @@ use Rattle.i7_sentences.specs.Names.{Words}
 use Rattle.i7_sentences.specs.Read.{heard_by}
 use Rattle.i7_sentences.specs.Assertions.{is_asserting, is_describing}
 use Rattle.i7_sentences.specs.Stretches.{Stretch, holds_bad_literal, stretches_of}
-use Rattle.i7_sentences.specs.ValueForms.{IsReadWith, IsUnreadWith}
+use Rattle.i7_sentences.specs.Understood.{IsUnderstoodBy}
+use Rattle.i7_sentences.specs.ValueForms.{IsUnreadWith}
 use Rattle.i7_sentences.specs.declared.heard.Heard.{Heard}
 use Rattle.i7_sentences.specs.declared.heard.Heard.TheVariants as heard
 use Rattle.i7_sentences.specs.declared.part.PartKind.{PartKind}
@@ -21,11 +22,11 @@ use Rattle.i7_sentences.specs.declared.part.PartKind.TheVariants.{Title, Heading
 use Rattle.i7_sentences.specs.declared.sentence.Assertion.TheVariants.{Aside}
 use Rattle.i7_sentences.specs.declared.sentence.Sentence.{Sentence}
 
--- where these kinds of value are declared, a sentence is read by a variant of a form, and says what it says by that
+-- where these kinds of value are declared, a sentence is understood by a variant of a form, and says what it says by that
 pub record Reads (kinds : List Words) (tokens : List Token) (said : Heard) : Type 0 where
   pub variant : Variant
   pub letters : List (List Token)
-  pub reading : IsReadWith kinds tokens variant letters
+  pub reading : IsUnderstoodBy kinds tokens variant letters
   pub says : said ≡ heard_by kinds tokens variant letters
 
 -- or no form reads it, and it isn't understood at its line

@@ -12,7 +12,7 @@ use Rattle.i7_sentences.specs.Lowest.{lowest}
 use Rattle.i7_sentences.specs.Matching.{Found}
 use Rattle.i7_sentences.specs.Names.{Words}
 use Rattle.i7_sentences.specs.RuleHeads.{body_tokens, head_in, is_rule_form}
-use Rattle.i7_sentences.specs.ValueFits.{read_with}
+use Rattle.i7_sentences.specs.Understood.{understood_by}
 use Rattle.i7_sentences.specs.declared.part.PartKind.{PartKind}
 use Rattle.i7_sentences.specs.declared.part.PartKind.TheVariants.{Title, Heading, Sentence}
 use Rattle.i7_sentences.specs.declared.rule_head.Head.{Head}
@@ -46,7 +46,7 @@ read_stretches tokens (Some found) = if is_rule_form found.variant.form then rul
 abbrev pub kind_stretches : List Words → PartKind → List Token → List Stretch
 kind_stretches kinds Title tokens = []
 kind_stretches kinds Heading tokens = []
-kind_stretches kinds Sentence tokens = read_stretches tokens (read_with kinds tokens)
+kind_stretches kinds Sentence tokens = read_stretches tokens (understood_by kinds tokens)
 
 abbrev pub stretches_of : List Words → Piece → List Stretch
 stretches_of kinds part = kind_stretches kinds part.kind part.tokens

@@ -2,7 +2,7 @@
 use Rattle.std.specs.Prelude.{ℕ, zero, suc, ◌-◌, Bool, ◌&&◌, List, [], ◌∷◌, ◌++◌, length, take, drop, Option, None, option_map, if◌then◌else◌}
 use Rattle.i7_lexer.specs.declared.token.Token.{Token}
 use Rattle.i7_sentences.specs.Automata.{is_of}
-use Rattle.i7_sentences.specs.Forms.{higher_forms, lower_forms}
+use Rattle.i7_sentences.specs.Forms.{higher_forms, lower_forms, middle_forms}
 use Rattle.i7_sentences.specs.Matching.{Found, first_fit, found_as, lowest_fit, or_later, preferred}
 use Rattle.i7_sentences.specs.Names.{Words}
 use Rattle.i7_sentences.specs.ValueForms.{ValueForm, names_one, value_forms}
@@ -53,6 +53,10 @@ abbrev pub lowest_value : List ValueForm → List Words → List Token → Optio
 lowest_value [] kinds tokens = None
 lowest_value (form ∷ forms) kinds tokens = or_later (form_fit kinds form tokens) (lowest_value forms kinds tokens)
 
--- how a sentence is read where these kinds of value are declared
+-- how a sentence is read by the forms behind those of rules, where these kinds of value are declared
+abbrev pub read_later : List Words → List Token → Option Found
+read_later kinds tokens = or_later (lowest_fit middle_forms tokens) (or_later (lowest_value value_forms kinds tokens) (lowest_fit higher_forms tokens))
+
+-- how it is read by all forms
 abbrev pub read_with : List Words → List Token → Option Found
-read_with kinds tokens = or_later (lowest_fit lower_forms tokens) (or_later (lowest_value value_forms kinds tokens) (lowest_fit higher_forms tokens))
+read_with kinds tokens = or_later (lowest_fit lower_forms tokens) (read_later kinds tokens)

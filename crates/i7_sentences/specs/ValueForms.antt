@@ -3,7 +3,7 @@ use Rattle.std.specs.Prelude.{◌≡◌, ◌⊎◌, Bool, true, false, ◌&&◌,
 use Rattle.std.specs.List.{All, list_any}
 use Rattle.world_meaning.specs.Spelling.{is_spelled, lowered}
 use Rattle.i7_lexer.specs.declared.token.Token.{Token}
-use Rattle.i7_sentences.specs.Forms.{Fits, IsReading, IsUnread, Variant, are_shorter, higher_forms, lower_forms}
+use Rattle.i7_sentences.specs.Forms.{Fits, IsReading, IsUnread, Variant, are_shorter, higher_forms, lower_forms, middle_forms}
 use Rattle.i7_sentences.specs.Names.{named_in, Words}
 use Rattle.i7_sentences.specs.Plurals.{plural_of}
 use Rattle.i7_sentences.specs.TextPieces.{are_spelled}
@@ -86,13 +86,22 @@ pub record IsValueReading (kinds : List Words) (tokens : List Token) (variant : 
   pub is_variant : variant ≡ form.variant
   pub reads : ReadsValue value_forms kinds tokens form letters
 
--- A sentence is read by a lower form; or none fits, and a value form reads it; or none of these fits, and a higher form reads it.
+-- The forms behind those of rules read a sentence: a middle form does; or none fits, and a value form does; or none of these fits,
+-- and a higher form does.
+abbrev pub IsReadLater : List Words → List Token → Variant → List (List Token) → Type 0
+IsReadLater kinds tokens variant letters =
+    IsReading middle_forms tokens variant letters
+    ⊎ (IsUnread middle_forms tokens × IsValueReading kinds tokens variant letters)
+    ⊎ (IsUnread middle_forms tokens × HasNoValue kinds tokens × IsReading higher_forms tokens variant letters)
+
+-- none of them fits
+abbrev pub IsUnreadLater : List Words → List Token → Type 0
+IsUnreadLater kinds tokens = IsUnread middle_forms tokens × HasNoValue kinds tokens × IsUnread higher_forms tokens
+
+-- A sentence is read by a lower form; or none fits, and a later form reads it.
 abbrev pub IsReadWith : List Words → List Token → Variant → List (List Token) → Type 0
-IsReadWith kinds tokens variant letters =
-    IsReading lower_forms tokens variant letters
-    ⊎ (IsUnread lower_forms tokens × IsValueReading kinds tokens variant letters)
-    ⊎ (IsUnread lower_forms tokens × HasNoValue kinds tokens × IsReading higher_forms tokens variant letters)
+IsReadWith kinds tokens variant letters = IsReading lower_forms tokens variant letters ⊎ (IsUnread lower_forms tokens × IsReadLater kinds tokens variant letters)
 
 -- no form fits
 abbrev pub IsUnreadWith : List Words → List Token → Type 0
-IsUnreadWith kinds tokens = IsUnread lower_forms tokens × HasNoValue kinds tokens × IsUnread higher_forms tokens
+IsUnreadWith kinds tokens = IsUnread lower_forms tokens × IsUnreadLater kinds tokens

@@ -1,5 +1,5 @@
 -- What a token is: a word, a text or a mark, and what it may name.
-use Rattle.std.specs.Prelude.{ℕ, Bool, true, false, List, [], ◌∷◌, Option, find}
+use Rattle.std.specs.Prelude.{ℕ, Bool, true, false, List, [], ◌∷◌, Option, codes, find, if◌then◌else◌}
 use Rattle.std.specs.Char.{eq_ignore_ascii_case}
 use Rattle.std.specs.List.{list_any}
 use Rattle.world_meaning.specs.Spelling.{is_spelled}
@@ -10,12 +10,16 @@ use Rattle.i7_lexer.specs.declared.token.TokenKind.{TokenKind}
 use Rattle.i7_lexer.specs.declared.token.TokenKind.TheVariants.{Text, Word, Mark}
 use Rattle.i7_sentences.specs.declared.word.TheConstants.{COMPASS}
 
+-- `are` reads as `is`
+unfoldable pub as_read : List ℕ → List ℕ
+as_read word = if is_spelled word (codes "are") then codes "is" else word
+
 abbrev pub word_in : TokenKind → List ℕ
 word_in (Text text) = []
-word_in (Word word) = word
+word_in (Word word) = as_read word
 word_in (Mark mark) = []
 
--- the bytes of a word as written; none of a text or a mark
+-- the bytes of a word as it is read, which is as it is written but for `are`; none of a text or a mark
 abbrev pub word_of : Token → List ℕ
 word_of token = word_in token.kind
 

@@ -3,31 +3,12 @@ ghost use Rattle.std.specs.Prelude.{◌≡◌};
 ghost use Rattle.std.specs.List.{list_any};
 ghost use Rattle.world_meaning.specs.Spelling.{is_spelled};
 ghost use Rattle.i7_sentences.specs.Automata.{accepts, alone_step, asked_step, body_step, names_step, run_step, side_start, side_step, step};
-ghost use Rattle.i7_sentences.specs.Classes.{is_degree, is_head_token, is_inner, is_choice, is_joint, is_name_word, is_vertical, opens_phrase};
+ghost use Rattle.i7_sentences.specs.Classes.{is_body_mark, is_degree, is_head_token, is_inner, is_choice, is_joint, is_name_word, is_vertical};
 
 use crate::Keyword;
 use crate::tagged::Tagged;
 use crate::word::word_of;
 use world_meaning::is_spelled;
-
-/// The words that a phrase begins with.
-pub const PHRASES: [&[u8]; 15] = [
-    b"say",
-    b"now",
-    b"move",
-    b"increase",
-    b"decrease",
-    b"try",
-    b"silently",
-    b"follow",
-    b"rule",
-    b"make",
-    b"continue",
-    b"stop",
-    b"end",
-    b"if",
-    b"repeat",
-];
 
 /// What a letter stands for.
 #[derive(Clone, Copy, Debug, PartialEq, Eq)]
@@ -54,7 +35,7 @@ pub enum Class {
     Texts,
     /// Words and round brackets, as in a rule's head.
     Head,
-    /// `:` and what stands behind it, or `,` and what begins as a phrase does.
+    /// `:` or `,` and what stands behind it.
     Body,
     /// `thing`, `visible thing` or `carried thing`.
     Asked,
@@ -69,7 +50,7 @@ pub enum State {
     Inside,
     /// Behind a word with which it may not end.
     Between,
-    /// Behind another such word: `inside` or `outside`, or a rule's `,`.
+    /// Behind another such word: `inside` or `outside`.
     Beside,
 }
 
@@ -123,14 +104,6 @@ pub fn is_any(word: &[u8], words: &[&[u8]]) -> bool
     ensures { result ≡ list_any (λ other. is_spelled word.now other.now) words.now }
 {
     words.iter().any(|other| is_spelled(word, other))
-}
-
-/// Whether a phrase may begin with the token.
-#[tactic(auto, unfolding(crate::specs::Classes::opens_phrase))]
-fn opens_phrase(token: &Tagged<'_>) -> bool
-    ensures { result ≡ opens_phrase token.now }
-{
-    is_any(word_of(token.token()), &PHRASES)
 }
 
 /// Whether the token is a text, or `or`.
@@ -210,6 +183,14 @@ pub fn side_step(state: State, token: &Tagged<'_>) -> Option<State>
     }
 }
 
+/// Whether the token ends a rule's head.
+#[tactic(auto, unfolding(crate::specs::Classes::is_body_mark))]
+fn is_body_mark(token: &Tagged<'_>) -> bool
+    ensures { result ≡ is_body_mark token.now }
+{
+    token.is_sign(Keyword::Colon) || token.is_sign(Keyword::Comma)
+}
+
 /// The step of the mark that ends a rule's head, and of what stands behind it.
 #[tactic(auto, unfolding(crate::specs::Automata::body_step))]
 fn body_step(state: State, token: &Tagged<'_>) -> Option<State>
@@ -217,16 +198,14 @@ fn body_step(state: State, token: &Tagged<'_>) -> Option<State>
 {
     match state {
         State::Start => {
-            if token.is_sign(Keyword::Colon) {
+            if is_body_mark(token) {
                 Some(State::Between)
-            } else if token.is_sign(Keyword::Comma) {
-                Some(State::Beside)
             } else {
                 None
             }
         }
         State::Inside | State::Between => Some(State::Inside),
-        State::Beside => run_step(opens_phrase(token)),
+        State::Beside => None,
     }
 }
 

@@ -163,9 +163,9 @@ const DESCRIPTION: Piece = Word(Keyword::Description);
 
 const NUMBER: Piece = Word(Keyword::Number);
 
-/// The forms that are tried before those that speak of kinds of value, the lowest first. Each is its variants:
-/// where several fit a sentence, that with the shortest letters is read, and of equally short ones the first.
-pub const LOWER_FORMS: [&[(Form, &[Piece])]; 18] = [
+/// The forms up to those of rules, the lowest first. Each is its variants: where several fit a sentence, that with the
+/// shortest letters is read, and of equally short ones the first.
+pub const LOWER_FORMS: [&[(Form, &[Piece])]; 13] = [
     &[(Form::Description, &[TEXT])],
     &[(
         Form::Understand,
@@ -214,6 +214,10 @@ pub const LOWER_FORMS: [&[(Form, &[Piece])]; 18] = [
         (Form::OwnRule, &[WORDS, RULE, BODY]),
         (Form::OwnRule, &[WORDS, RULE, HEAD, BODY]),
     ],
+];
+
+/// The forms behind those of rules that are tried before those that speak of kinds of value, the lowest first.
+pub const MIDDLE_FORMS: [&[(Form, &[Piece])]; 5] = [
     &[
         (Form::SceneBegins, &[NAME, BEGINS, WHEN, WORDS]),
         (Form::SceneEnds, &[NAME, ENDS, WHEN, WORDS]),

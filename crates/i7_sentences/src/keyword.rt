@@ -5,6 +5,7 @@ ghost use Rattle.world_meaning.specs.Spelling.{is_spelled};
 ghost use Rattle.i7_sentences.specs.Keywords.{keyword_among, keyword_in, keyword_of, keyword_spelled};
 ghost use Rattle.i7_sentences.specs.SmallRows.{are_small, begins_with, is_small, small_first};
 
+use crate::word::as_read;
 use i7_lexer::{PackedToken, TokenKind};
 use world_meaning::is_spelled;
 
@@ -53,7 +54,6 @@ pub enum Keyword {
     Increase,
     Inside,
     Instead,
-    /// `is` or `are`
     Is,
     Kind,
     Last,
@@ -142,7 +142,6 @@ pub const KEYWORDS: [&[(&[u8], Keyword)]; 12] = [
     &[
         (b"and", Keyword::And),
         (b"any", Keyword::Any),
-        (b"are", Keyword::Is),
         (b"can", Keyword::Can),
         (b"end", Keyword::End),
         (b"has", Keyword::Has),
@@ -338,7 +337,7 @@ pub fn keyword_of(token: &PackedToken) -> Option<Keyword>
 {
     match token.kind() {
         TokenKind::Text(_) => None,
-        TokenKind::Word(word) => keyword_spelled(word.as_slice()),
+        TokenKind::Word(word) => keyword_spelled(as_read(word.as_slice())),
         TokenKind::Mark(mark) => keyword_spelled(&[mark]),
     }
 }

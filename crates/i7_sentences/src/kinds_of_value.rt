@@ -1,6 +1,6 @@
 //! The kinds of value that a source declares, which a first look at its sentences finds.
 ghost use Rattle.std.specs.Prelude.{◌≡◌, false, is_some, map, option_map, IfOk, None, if◌then◌else◌};
-ghost use Rattle.i7_sentences.specs.Forms.{lower_forms};
+ghost use Rattle.i7_sentences.specs.Forms.{middle_forms};
 ghost use Rattle.i7_sentences.specs.Keywords.{is_sign};
 ghost use Rattle.i7_sentences.specs.KindsOfValue.{declared_by, declared_in, ends_in_value, first_name, is_value_itself, kinds_of_value, opens_with_value, speaks_of_value};
 ghost use Rattle.i7_sentences.specs.Matching.{best_fit, first_fit, lowest_fit};
@@ -12,7 +12,7 @@ ghost use Rattle.i7_sentences.specs.declared.value_form.TheConstants.{KIND_OF_VA
 use crate::column_stack::ColumnStack;
 use crate::keyword::keyword_of;
 use crate::matcher::fit;
-use crate::reading::lower_reading;
+use crate::reading::middle_reading;
 use crate::signs::signs_of;
 use crate::tagged::{Tagged, with_tags};
 use crate::value_form::{KIND_OF_VALUE, VALUE_ITSELF};
@@ -97,16 +97,16 @@ fn first_name(
     }
 }
 
-/// The kind of value that the words declare, if no lower form reads them.
+/// The kind of value that the words declare, if no middle form reads them.
 fn declared_name(
     alloc: Global,
     tokens: &[Tagged<'_>],
     columns: &mut ColumnStack,
 ) -> Result<Option<WordList>, AllocError>
-    ensures { IfOk result (λ name. name ≡ (if is_some (lowest_fit lower_forms tokens.now) then None else first_name (first_fit KIND_OF_VALUE.now tokens.now))) }
+    ensures { IfOk result (λ name. name ≡ (if is_some (lowest_fit middle_forms tokens.now) then None else first_name (first_fit KIND_OF_VALUE.now tokens.now))) }
 {
     let signs = signs_of(tokens);
-    if lower_reading(alloc, &signs, tokens, columns)?.is_some() {
+    if middle_reading(alloc, &signs, tokens, columns)?.is_some() {
         return Ok(None);
     }
     Ok(first_name(alloc, fit(alloc, KIND_OF_VALUE, tokens, columns)?)?)

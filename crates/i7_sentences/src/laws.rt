@@ -11,6 +11,7 @@ ghost use Rattle.i7_sentences.specs.Matching.{Found, lowest_fit};
 ghost use Rattle.i7_sentences.specs.Names.{Words};
 ghost use Rattle.i7_sentences.specs.Seams.{IsCut, IsOnlyCut};
 ghost use Rattle.i7_sentences.specs.Sources.{HasSentences, IsRefused, IsSpeaking};
+ghost use Rattle.i7_sentences.specs.Understood.{IsUnderstoodBy, understood_by};
 ghost use Rattle.i7_sentences.specs.ValueFits.{read_with};
 ghost use Rattle.i7_sentences.specs.ValueForms.{IsReadWith, IsUnreadWith};
 ghost use Rattle.i7_sentences.specs.declared.keyword.Keyword.{Keyword};
@@ -44,6 +45,14 @@ pub fn read_or_unread()
     ensures never_both { (forms : List (List Variant)) (words : List Token) (v : Variant) (letters : List (List Token)) → IsReading forms words v letters → IsUnread forms words → ⊥ }
 {}
 
+/// No sentence is understood in two ways, nor in one that no form reads, and what the definitions find is how it is understood.
+pub fn one_understanding()
+    ensures one { (kinds : List Words) (words : List Token) (v w : Variant) (a b : List (List Token)) → IsUnderstoodBy kinds words v a → IsUnderstoodBy kinds words w b → (v ≡ w) × (a ≡ b) }
+    ensures not_both { (kinds : List Words) (words : List Token) (v : Variant) (letters : List (List Token)) → IsUnderstoodBy kinds words v letters → IsUnreadWith kinds words → ⊥ }
+    ensures some { (kinds : List Words) (words : List Token) (found : Found) → understood_by kinds words ≡ Some found → IsUnderstoodBy kinds words found.variant found.letters }
+    ensures none { (kinds : List Words) (words : List Token) → understood_by kinds words ≡ None → IsUnreadWith kinds words }
+{}
+
 /// What the definitions find from left to right is the reading, whatever the forms, and where they find
 /// nothing the words are unread: so it is for the heads of rules and for phrases too.
 pub fn found_is_read()
@@ -68,10 +77,10 @@ pub fn spelled_or_refused()
     ensures never_both { (tokens : List Token) (sentences : List Sentence) (fault : Fault) → HasSentences tokens sentences → fault.code ≢ Memory → IsRefused tokens fault → ⊥ }
 {}
 
-/// A form that is no rule's, no `Understand`, and tells no scene's beginning or end, says something wherever it is the reading of a
-/// part, so that the part is a sentence or has a reserved word in a name, but for a text that may not describe.
+/// A form that is no rule's, no `Understand`, and tells no scene's beginning or end, says something wherever a part is understood by
+/// it, so that the part is a sentence or has a reserved word in a name, but for a text that may not describe.
 pub fn forms_that_fit_speak()
-    ensures { (kinds : List Words) (part : Piece) (variant : Variant) (letters : List (List Token)) → IsReadWith kinds part.tokens variant letters → IsSpeaking kinds variant part }
+    ensures { (kinds : List Words) (part : Piece) (variant : Variant) (letters : List (List Token)) → IsUnderstoodBy kinds part.tokens variant letters → IsSpeaking kinds variant part }
 {}
 
 /// The lines of sentences rise where those of their tokens do.
@@ -79,7 +88,7 @@ pub fn sentence_lines_rise()
     ensures { (tokens : List Token) (sentences : List Sentence) → LinesRise (λ t. t.line) tokens → HasSentences tokens sentences → LinesRise (λ s. s.line) sentences }
 {}
 
-/// The kinds of value of a source are those that its sentences declare which no lower form reads, in order; there are none where a
+/// The kinds of value of a source are those that its sentences declare which no middle form reads, in order; there are none where a
 /// sentence says of value itself that it is a kind.
 pub fn kinds_of_value_are_declared()
     ensures { (parts : List Piece) → AreKinds parts (kinds_of_value parts) }

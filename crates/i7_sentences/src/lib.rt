@@ -71,9 +71,9 @@ pub use action_form::{ACTION_FORMS, ActionSort};
 pub use body::{PhraseLine, phrases_of};
 pub use body_order::{body_fault, reserved_line};
 pub use brackets::{behind_closing, in_front_of_closing};
-pub use class::{Class, PHRASES, State};
+pub use class::{Class, State};
 pub use cut::HEADINGS;
-pub use form::{Form, HIGHER_FORMS, LOWER_FORMS, Piece};
+pub use form::{Form, HIGHER_FORMS, LOWER_FORMS, MIDDLE_FORMS, Piece};
 pub use grammar_sentence::Understanding;
 pub use keyword::{ARTICLES, KEYWORDS, Keyword, RESERVED};
 pub use laws::{

@@ -6,7 +6,7 @@ use crate::Keyword;
 use crate::signs::Signs;
 
 /// Of each lower sentence form, in order, a word or mark that all of its variants have, if there is one.
-pub static LOWER_NEEDED: [Option<Keyword>; 18] = [
+pub static LOWER_NEEDED: [Option<Keyword>; 13] = [
     None,
     Some(Keyword::Understand),
     Some(Keyword::Before),
@@ -20,6 +20,10 @@ pub static LOWER_NEEDED: [Option<Keyword>; 18] = [
     Some(Keyword::Begins),
     Some(Keyword::Ends),
     Some(Keyword::Rule),
+];
+
+/// The same of the middle ones.
+pub static MIDDLE_NEEDED: [Option<Keyword>; 5] = [
     Some(Keyword::When),
     Some(Keyword::Listed),
     Some(Keyword::Action),

@@ -11,7 +11,7 @@ ghost use Rattle.i7_sentences.specs.Read.{heard_found, heard_in, named_heard, pl
 ghost use Rattle.i7_sentences.specs.Reserved.{has_reserved_among};
 ghost use Rattle.i7_sentences.specs.Sources.{HasSentences, IsRefused};
 ghost use Rattle.i7_sentences.specs.Stretches.{bad_literal_in, bad_literal_of, read_stretches};
-ghost use Rattle.i7_sentences.specs.ValueFits.{read_with};
+ghost use Rattle.i7_sentences.specs.Understood.{is_lost, passed_on, understood_by};
 ghost use Rattle.i7_sentences.specs.Found.{found_in};
 
 use crate::assertion::assertion_of;
@@ -26,9 +26,9 @@ use crate::reserved::has_reserved_among;
 use crate::rule_form::is_rule_form;
 use crate::rule_reader::rule_part;
 use crate::stretch::bad_literal_in;
-use crate::tagged::with_tags;
-use crate::value_reading::reading_with;
-use crate::{Assertion, Part, PartKind, Sentence, WordList};
+use crate::tagged::{Tagged, with_tags};
+use crate::value_reading::{later_reading, reading_with};
+use crate::{Assertion, Form, Part, PartKind, Sentence, WordList};
 use i7_lexer::{Lexed, PackedToken};
 use std::alloc::{AllocError, Global};
 use world_meaning::{Fault, FaultCode};
@@ -79,16 +79,74 @@ fn plain_heard(
     }
 }
 
-/// What a sentence says, where these kinds of value are declared.
+/// What a sentence says by this reading.
 #[tactic(auto, using(crate::proofs::Lowest::lower_steps))]
+fn part_by(
+    alloc: Global,
+    kinds: &[WordList],
+    tokens: &[PackedToken],
+    words: &[Tagged<'_>],
+    reading: &Reading<'_, '_>,
+) -> Result<HeardPart, AllocError>
+    requires { words.now ≡ tokens.now }
+    ensures heard { IfOk result (λ part. part.heard ≡ heard_found kinds.now tokens.now (Some (found_in reading.now))) }
+    ensures literals { IfOk result (λ part. part.bad_literal ≡ lowest bad_literal_in (read_stretches tokens.now (Some (found_in reading.now)))) }
+{
+    if is_rule_form(reading.form) {
+        return Ok(rule_part(alloc, tokens, words)?);
+    }
+    let line = line_in(tokens);
+    Ok(HeardPart {
+        heard: plain_heard(alloc, kinds, line, reading)?,
+        bad_literal: bad_literal_in(line, tokens),
+    })
+}
+
+/// Whether what a form of rules reads isn't understood, so that it may be a sentence of a later form.
+#[tactic(auto, unfolding(crate::specs::Understood::is_lost))]
+fn is_lost(form: Form, heard: &Heard) -> bool
+    ensures { result ≡ is_lost form heard.now }
+{
+    match heard {
+        Heard::Unread(_) => is_rule_form(form),
+        Heard::Says(_) | Heard::Reserved(_) => false,
+    }
+}
+
+/// What a sentence says that this form reads, or else a later form, if it isn't understood as the rule that it would be.
+#[tactic(none)]
+fn understood_part(
+    alloc: Global,
+    kinds: &[WordList],
+    tokens: &[PackedToken],
+    words: &[Tagged<'_>],
+    reading: &Reading<'_, '_>,
+    columns: &mut ColumnStack,
+) -> Result<HeardPart, AllocError>
+    requires { words.now ≡ tokens.now }
+    ensures heard { IfOk result (λ part. part.heard ≡ heard_found kinds.now tokens.now (passed_on kinds.now tokens.now (found_in reading.now))) }
+    ensures literals { IfOk result (λ part. part.bad_literal ≡ lowest bad_literal_in (read_stretches tokens.now (passed_on kinds.now tokens.now (found_in reading.now)))) }
+{
+    let part = part_by(alloc, kinds, tokens, words, reading)?;
+    if !is_lost(reading.form, &part.heard) {
+        return Ok(part);
+    }
+    match later_reading(alloc, kinds, words, columns)? {
+        None => Ok(part),
+        Some(later) => Ok(part_by(alloc, kinds, tokens, words, &later)?),
+    }
+}
+
+/// What a sentence says, where these kinds of value are declared.
+#[tactic(auto, unfolding(crate::specs::Understood::understood_by), using(crate::proofs::Lowest::lower_steps))]
 fn sentence_part(
     alloc: Global,
     kinds: &[WordList],
     tokens: &[PackedToken],
     columns: &mut ColumnStack,
 ) -> Result<HeardPart, AllocError>
-    ensures heard { IfOk result (λ part. part.heard ≡ heard_found kinds.now tokens.now (read_with kinds.now tokens.now)) }
-    ensures literals { IfOk result (λ part. part.bad_literal ≡ lowest bad_literal_in (read_stretches tokens.now (read_with kinds.now tokens.now))) }
+    ensures heard { IfOk result (λ part. part.heard ≡ heard_found kinds.now tokens.now (understood_by kinds.now tokens.now)) }
+    ensures literals { IfOk result (λ part. part.bad_literal ≡ lowest bad_literal_in (read_stretches tokens.now (understood_by kinds.now tokens.now))) }
 {
     let line = line_in(tokens);
     let words = with_tags(alloc, tokens)?;
@@ -97,15 +155,7 @@ fn sentence_part(
             heard: Heard::Unread(line),
             bad_literal: bad_literal_in(line, tokens),
         }),
-        Some(reading) => {
-            if is_rule_form(reading.form) {
-                return Ok(rule_part(alloc, tokens, words.as_slice())?);
-            }
-            Ok(HeardPart {
-                heard: plain_heard(alloc, kinds, line, &reading)?,
-                bad_literal: bad_literal_in(line, tokens),
-            })
-        }
+        Some(reading) => understood_part(alloc, kinds, tokens, words.as_slice(), &reading, columns),
     }
 }
 

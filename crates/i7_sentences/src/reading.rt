@@ -1,23 +1,26 @@
 //! The reading of a sentence: the lowest form that fits, with the shortest letters.
 ghost use Rattle.std.specs.Prelude.{◌≡◌, ◌≤◌, length, map, option_map, true, IfOk};
 ghost use Rattle.std.specs.List.{list_all};
-ghost use Rattle.i7_sentences.specs.Forms.{are_shorter, higher_forms, lower_forms};
+ghost use Rattle.i7_sentences.specs.Forms.{are_shorter, higher_forms, lower_forms, middle_forms};
 ghost use Rattle.i7_sentences.specs.Matching.{FitAlike, best_fit, first_fit, found_as, lowest_fit, preferred};
 ghost use Rattle.i7_sentences.specs.Found.{found_in};
 ghost use Rattle.i7_sentences.specs.Needed.{are_needed, needs};
 ghost use Rattle.i7_sentences.specs.Signs.{table_of};
 
 use crate::column_stack::ColumnStack;
-use crate::form::{HIGHER_FORMS, LOWER_FORMS};
+use crate::form::{HIGHER_FORMS, LOWER_FORMS, MIDDLE_FORMS};
 use crate::matcher::{fit, is_passed_over};
-use crate::needed::{HIGHER_NEEDED, LOWER_NEEDED, first_word, is_lacking, other_words};
+use crate::needed::{HIGHER_NEEDED, LOWER_NEEDED, MIDDLE_NEEDED, first_word, is_lacking, other_words};
 use crate::signs::Signs;
 use crate::tagged::Tagged;
 use crate::{Form, Keyword, Piece};
 use std::alloc::{AllocError, Global};
 
 /// The lower forms at one place of memory.
-static LOWER: [&[(Form, &[Piece])]; 18] = LOWER_FORMS;
+static LOWER: [&[(Form, &[Piece])]; 13] = LOWER_FORMS;
+
+/// The middle forms.
+static MIDDLE: [&[(Form, &[Piece])]; 5] = MIDDLE_FORMS;
 
 /// The higher forms.
 static HIGHER: [&[(Form, &[Piece])]; 12] = HIGHER_FORMS;
@@ -197,6 +200,20 @@ pub fn lower_reading<'a, 'b>(
     ensures { IfOk result (λ found. option_map found_in found ≡ lowest_fit lower_forms tokens.now) }
 {
     Ok(lowest_fit(alloc, &LOWER, &LOWER_NEEDED, signs, tokens, columns)?)
+}
+
+/// The same by the middle forms.
+#[tactic(auto, unfolding(crate::specs::Forms::middle_forms))]
+pub fn middle_reading<'a, 'b>(
+    alloc: Global,
+    signs: &Signs,
+    tokens: &'a [Tagged<'b>],
+    columns: &mut ColumnStack,
+) -> Result<Option<Reading<'a, 'b>>, AllocError>
+    requires { signs.now ≡ table_of tokens.now }
+    ensures { IfOk result (λ found. option_map found_in found ≡ lowest_fit middle_forms tokens.now) }
+{
+    Ok(lowest_fit(alloc, &MIDDLE, &MIDDLE_NEEDED, signs, tokens, columns)?)
 }
 
 /// The same by the higher forms.

@@ -108,7 +108,7 @@ fn name_if(
     ensures { IfOk result (λ name. name ≡ name_if is_named letter.now) }
 {
     if is_named {
-        Ok(Some(words_in(alloc, letter)?))
+        Ok(Some(named_in(alloc, letter)?))
     } else {
         Ok(None)
     }

@@ -3,12 +3,12 @@ ghost use Rattle.std.specs.Prelude.{◌≡◌, ◌∷◌, [], ◌++◌, map, opt
 ghost use Rattle.i7_sentences.specs.Found.{found_in};
 ghost use Rattle.i7_sentences.specs.Matching.{first_fit, found_as};
 ghost use Rattle.i7_sentences.specs.Signs.{table_of};
-ghost use Rattle.i7_sentences.specs.ValueFits.{back_letters, cut_letters, form_fit, front_letters, lowest_value, read_with};
+ghost use Rattle.i7_sentences.specs.ValueFits.{back_letters, cut_letters, form_fit, front_letters, lowest_value, read_later, read_with};
 ghost use Rattle.i7_sentences.specs.ValueForms.{value_forms};
 
 use crate::column_stack::ColumnStack;
 use crate::matcher::{can_begin, fit, fit_behind, is_passed_over};
-use crate::reading::{Reading, higher_reading, lower_reading, preferred};
+use crate::reading::{Reading, higher_reading, lower_reading, middle_reading, preferred};
 use crate::signs::{Signs, signs_of};
 use crate::tagged::Tagged;
 use crate::value_form::VALUE_FORMS;
@@ -217,6 +217,38 @@ fn value_reading<'a, 'b>(
     Ok(lowest_value(alloc, kinds, &TABLE, signs, tokens, columns)?)
 }
 
+/// How a sentence is read by the forms behind those of rules.
+fn later_with<'a, 'b>(
+    alloc: Global,
+    kinds: &[WordList],
+    signs: &Signs,
+    tokens: &'a [Tagged<'b>],
+    columns: &mut ColumnStack,
+) -> Result<Option<Reading<'a, 'b>>, AllocError>
+    requires { signs.now ≡ table_of tokens.now }
+    ensures { IfOk result (λ found. option_map found_in found ≡ read_later kinds.now tokens.now) }
+{
+    if let Some(reading) = middle_reading(alloc, signs, tokens, columns)? {
+        return Ok(Some(reading));
+    }
+    if let Some(reading) = value_reading(alloc, kinds, signs, tokens, columns)? {
+        return Ok(Some(reading));
+    }
+    Ok(higher_reading(alloc, signs, tokens, columns)?)
+}
+
+/// How a sentence is read by the forms behind those of rules, where these kinds of value are declared. None: none of them fits.
+pub fn later_reading<'a, 'b>(
+    alloc: Global,
+    kinds: &[WordList],
+    tokens: &'a [Tagged<'b>],
+    columns: &mut ColumnStack,
+) -> Result<Option<Reading<'a, 'b>>, AllocError>
+    ensures { IfOk result (λ found. option_map found_in found ≡ read_later kinds.now tokens.now) }
+{
+    Ok(later_with(alloc, kinds, &signs_of(tokens), tokens, columns)?)
+}
+
 /// How a sentence is read where these kinds of value are declared. None: no form fits.
 pub fn reading_with<'a, 'b>(
     alloc: Global,
@@ -230,8 +262,5 @@ pub fn reading_with<'a, 'b>(
     if let Some(reading) = lower_reading(alloc, &signs, tokens, columns)? {
         return Ok(Some(reading));
     }
-    if let Some(reading) = value_reading(alloc, kinds, &signs, tokens, columns)? {
-        return Ok(Some(reading));
-    }
-    Ok(higher_reading(alloc, &signs, tokens, columns)?)
+    Ok(later_with(alloc, kinds, &signs, tokens, columns)?)
 }

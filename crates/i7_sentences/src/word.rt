@@ -2,7 +2,7 @@
 ghost use Rattle.std.specs.Prelude.{◌≡◌, find};
 ghost use Rattle.std.specs.Char.{eq_ignore_ascii_case};
 ghost use Rattle.std.specs.List.{list_any};
-ghost use Rattle.i7_sentences.specs.Words.{direction_named, is_text, is_word, may_lead, names_direction, word_of};
+ghost use Rattle.i7_sentences.specs.Words.{as_read, direction_named, is_text, is_word, may_lead, names_direction, word_of};
 
 use i7_lexer::{PackedToken, TokenKind};
 use world_meaning::{Direction, is_spelled};
@@ -30,12 +30,20 @@ fn may_lead(word: &[u8]) -> bool
     }
 }
 
-/// The bytes of a word as written; none of a text or a mark.
+/// A word as it is read: `are` is `is`, every other word is as it is written.
+#[tactic(auto, unfolding(crate::specs::Words::as_read))]
+pub fn as_read(word: &[u8]) -> &[u8]
+    ensures { result.now ≡ as_read word.now }
+{
+    if is_spelled(word, b"are") { b"is" } else { word }
+}
+
+/// The bytes of a word as it is read; none of a text or a mark.
 pub fn word_of(token: &PackedToken) -> &[u8]
     ensures { result.now ≡ word_of token.now }
 {
     match token.kind() {
-        TokenKind::Word(word) => word.as_slice(),
+        TokenKind::Word(word) => as_read(word.as_slice()),
         TokenKind::Text(_) | TokenKind::Mark(_) => &[],
     }
 }

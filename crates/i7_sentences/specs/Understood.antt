@@ -1,0 +1,58 @@
+-- By which form a sentence is understood: one that is no rule that is understood may be a sentence of a later form.
+use Rattle.std.specs.Prelude.{◌≡◌, ◌⊎◌, Bool, true, false, ◌&&◌, List, Option, Some, None, if◌then◌else◌}
+use Rattle.i7_lexer.specs.declared.token.Token.{Token}
+use Rattle.i7_sentences.specs.Forms.{Variant}
+use Rattle.i7_sentences.specs.Matching.{Found, or_later}
+use Rattle.i7_sentences.specs.Names.{Words}
+use Rattle.i7_sentences.specs.RuleHeads.{is_rule_form}
+use Rattle.i7_sentences.specs.Rules.{rule_heard}
+use Rattle.i7_sentences.specs.ValueFits.{read_later, read_with}
+use Rattle.i7_sentences.specs.ValueForms.{IsReadLater, IsReadWith, IsUnreadLater}
+use Rattle.i7_sentences.specs.declared.form.Form.{Form}
+use Rattle.i7_sentences.specs.declared.heard.Heard.{Heard}
+use Rattle.i7_sentences.specs.declared.heard.Heard.TheVariants.{Says, Unread, Reserved}
+
+abbrev pub is_unread : Heard → Bool
+is_unread (Says said) = false
+is_unread (Unread line) = true
+is_unread (Reserved line) = false
+
+-- a rule's form reads words, and they aren't understood
+unfoldable pub is_lost : Form → Heard → Bool
+is_lost form heard = is_rule_form form && is_unread heard
+
+abbrev pub is_passed_on : List Token → Variant → Bool
+is_passed_on tokens rule = is_lost rule.form (rule_heard tokens)
+
+-- so the forms behind those of rules are looked at, and where none of them fits it is a rule that isn't understood
+unfoldable pub passed_on : List Words → List Token → Found → Option Found
+passed_on kinds tokens found = if is_passed_on tokens found.variant then or_later (read_later kinds tokens) (Some found) else Some found
+
+abbrev pub understood_from : List Words → List Token → Option Found → Option Found
+understood_from kinds tokens None = None
+understood_from kinds tokens (Some found) = passed_on kinds tokens found
+
+-- how a sentence is understood where these kinds of value are declared
+unfoldable pub understood_by : List Words → List Token → Option Found
+understood_by kinds tokens = understood_from kinds tokens (read_with kinds tokens)
+
+-- ---- the same as a relation
+
+-- a form reads the words, and they aren't passed on
+abbrev pub IsKept : List Words → List Token → Variant → List (List Token) → Type 0
+IsKept kinds tokens variant letters = IsReadWith kinds tokens variant letters × (is_passed_on tokens variant ≡ false)
+
+-- a rule's form reads the words, and they are passed on
+abbrev pub IsPassedOn : List Words → List Token → Variant → List (List Token) → Type 0
+IsPassedOn kinds tokens rule letters = IsReadWith kinds tokens rule letters × (is_passed_on tokens rule ≡ true)
+
+-- they are passed on, and a later form reads them
+abbrev pub IsTaken : List Words → List Token → Variant → List (List Token) → Type 0
+IsTaken kinds tokens variant letters = ((rule : Variant) × (head : List (List Token)) × IsPassedOn kinds tokens rule head) × IsReadLater kinds tokens variant letters
+
+-- they are passed on, and no later form reads them
+abbrev pub IsLeft : List Words → List Token → Variant → List (List Token) → Type 0
+IsLeft kinds tokens variant letters = IsPassedOn kinds tokens variant letters × IsUnreadLater kinds tokens
+
+abbrev pub IsUnderstoodBy : List Words → List Token → Variant → List (List Token) → Type 0
+IsUnderstoodBy kinds tokens variant letters = IsKept kinds tokens variant letters ⊎ IsTaken kinds tokens variant letters ⊎ IsLeft kinds tokens variant letters
