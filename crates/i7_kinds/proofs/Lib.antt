@@ -25,6 +25,8 @@ pub mod ObjectsBehind
 pub mod UnderKinds
 pub mod Fines
 pub mod Setting
+pub mod HolderCycles
+pub mod Walks
 pub mod Placed
 pub mod PlaceScans
 pub mod ValueScans

@@ -5,6 +5,7 @@
 mod actions;
 mod author_kinds;
 mod claim_laws;
+mod cycles;
 mod declaring;
 mod descriptions;
 mod doors;
