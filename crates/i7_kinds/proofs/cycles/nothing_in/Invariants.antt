@@ -1,4 +1,4 @@
-use Rattle.std.proofs.Common.{◌≡◌, ℕ, List, [], replicate}
+use Rattle.std.proofs.Common.{◌≡◌, [], replicate}
 use Rattle.i7_kinds.proofs.cycles.nothing_in.Given as goal
 
 abbrev pub invariant-loop : goal.invariant-loop

@@ -1,6 +1,6 @@
-use Rattle.std.proofs.Common.{◌≡◌, ◌∙◌, ◌++◌, ◌∷◌, List, [], ℕ, Bool, ap, sym, subst}
-use Rattle.i7_kinds.specs.Cycles.{Contents, comes_to, encloses, things_in, unseen}
-use Rattle.i7_kinds.proofs.Walks.{first_step, found, less_left, step_on}
+use Rattle.std.proofs.Common.{◌∙◌, ◌++◌, ◌∷◌, List, [], ℕ, ap}
+use Rattle.i7_kinds.specs.Cycles.{encloses, unseen}
+use Rattle.i7_kinds.proofs.Walks.{first_step, less_left, step_on}
 use Rattle.i7_kinds.proofs.cycles.search.Goals as goal
 
 pub loop-at-init : goal.loop-at-init
