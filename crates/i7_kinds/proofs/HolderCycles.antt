@@ -40,7 +40,7 @@ emptied_itself (things ∷ contents) (suc o) = emptied_itself contents o
 emptied_other : (contents : Contents) (o h : ℕ) → (h ≡ o → ⊥) → things_in (emptied contents o) h ≡ things_in contents h
 emptied_other contents o h other = get_or-set_other contents o h [] [] other
 
-none_in : (thing : ℕ) → Contains [] thing → ⊥
+pub none_in : (thing : ℕ) → Contains [] thing → ⊥
 none_in thing t = omega (arith, t.1)
 
 none_there : (contents : Contents) (o thing : ℕ) → IsIn (emptied contents o) thing o → ⊥
@@ -194,7 +194,7 @@ module _ (objects : List (List ℕ)) where
       (λ later. inr (inr later))
       (put_by claims (with_put objects contents c.fact) (put_room c.fact contents room) x h i)
 
-  put_there : (claims : List Claim) (contents : Contents) → length objects < length contents → (x h : ℕ) → IsIn contents x h ⊎ IsPut objects claims x h → IsIn (fold (with_put_of objects) contents claims) x h
+  pub put_there : (claims : List Claim) (contents : Contents) → length objects < length contents → (x h : ℕ) → IsIn contents x h ⊎ IsPut objects claims x h → IsIn (fold (with_put_of objects) contents claims) x h
   put_there [] contents room x h (inl i) = i
   put_there [] contents room x h (inr none) = absurd none
   put_there (c ∷ claims) contents room x h (inl i) = put_there claims (with_put objects contents c.fact) (put_room c.fact contents room) x h (inl (still_put c.fact contents room x h i))

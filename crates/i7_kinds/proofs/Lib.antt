@@ -27,6 +27,7 @@ pub mod Fines
 pub mod Setting
 pub mod HolderCycles
 pub mod Walks
+pub mod Rising
 pub mod Placed
 pub mod PlaceScans
 pub mod ValueScans

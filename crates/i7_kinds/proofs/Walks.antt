@@ -41,13 +41,6 @@ unseen_stays contents seen o h = emptied_already (unseen contents seen) o (unsee
 
 -- ---- steps
 
-pub to_none : (contents : Contents) (other : ℕ) → comes_to contents [] other ≡ false
-to_none contents other = none_to (things_held contents + 0)
-  where
-    none_to : (most : ℕ) → walk most contents [] other ≡ false
-    none_to zero = refl
-    none_to (suc most) = refl
-
 one_step : (contents : Contents) (o : ℕ) (todo : List ℕ) (other : ℕ) → comes_to contents (o ∷ todo) other ≡ (o == other) || comes_to (emptied contents o) (todo ++ things_in contents o) other
 one_step contents o todo other =
     let steps : things_held contents + length (o ∷ todo) ≡ suc (things_held (emptied contents o) + length (todo ++ things_in contents o)) = omega (arith, fewer contents o, length-append todo (things_in contents o)) in
@@ -68,15 +61,3 @@ less_left old new o todo more e f = rw (e, f) (omega (arith, fewer old o, length
 
 pub first_step : (contents : Contents) (seen : List Bool) (todo : List ℕ) (o other : ℕ) → seen ≡ replicate (length contents) false → todo ≡ o ∷ [] → comes_to (unseen contents seen) todo other ≡ encloses contents o other
 first_step contents seen todo o other e f = rw (e, f, unseen_first) refl
-
--- what has nothing in it encloses itself alone
-pub itself_alone : (contents : Contents) (o other : ℕ) → length (things_in contents o) ≡ 0 → encloses contents o other ≡ (o == other)
-itself_alone contents o other h = one_step contents o [] other ∙ rw (nothing (things_in contents o) h) (rw to_none (or_none (o == other)))
-  where
-    nothing : (things : List ℕ) → length things ≡ 0 → things ≡ []
-    nothing [] h = refl
-    nothing (thing ∷ things) h = absurd (omega (arith, h))
-
-    or_none : (b : Bool) → b || false ≡ b
-    or_none true = refl
-    or_none false = refl

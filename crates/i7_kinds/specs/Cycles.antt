@@ -1,5 +1,5 @@
 -- Which objects stand in which, by all the places that claims tell of each, and the walk through contents that finds it out.
-use Rattle.std.specs.Prelude.{◌≡◌, ◌⊎◌, ℕ, zero, suc, ◌+◌, Bool, true, false, not, ◌||◌, ◌==◌, List, [], ◌∷◌, ◌++◌, length, replicate, slice_index_or, slice_set, if◌then◌else◌}
+use Rattle.std.specs.Prelude.{◌≡◌, ◌⊎◌, ℕ, zero, suc, ◌+◌, Bool, true, false, not, ◌||◌, ◌&&◌, ◌==◌, nat_lt, List, [], ◌∷◌, ◌++◌, length, fold, replicate, slice_index_or, slice_set, if◌then◌else◌}
 use Rattle.i7_claims.specs.Numbers.{number_in}
 use Rattle.i7_claims.specs.declared.claim.Claim.{Claim}
 use Rattle.i7_claims.specs.declared.claim.Fact.{Fact}
@@ -42,6 +42,10 @@ with_put_of objects contents c = with_put objects contents c.fact
 abbrev pub nothing_in : ℕ → Contents
 nothing_in count = replicate (count + 1) []
 
+-- what claims put in each object
+abbrev pub contents_by : List (List ℕ) → List Claim → Contents
+contents_by objects claims = fold (with_put_of objects) (nothing_in (length objects)) claims
+
 -- ---- a walk
 
 abbrev pub emptied : Contents → ℕ → Contents
@@ -74,3 +78,17 @@ unseen (things ∷ contents) (is ∷ seen) = (if is then [] else things) ∷ uns
 -- an object is another, or has it in it
 abbrev pub encloses : Contents → ℕ → ℕ → Bool
 encloses contents object other = comes_to contents (object ∷ []) other
+
+-- ---- ranks that tell that there is no cycle
+
+abbrev pub rank_of : List ℕ → ℕ → ℕ
+rank_of ranks object = slice_index_or ranks object 0
+
+abbrev pub are_above : List ℕ → ℕ → List ℕ → Bool
+are_above ranks rank [] = true
+are_above ranks rank (thing ∷ things) = nat_lt rank (rank_of ranks thing) && are_above ranks rank things
+
+-- what is in each holder, from this one on, ranks above it
+abbrev pub rise_from : List ℕ → ℕ → Contents → Bool
+rise_from ranks object [] = true
+rise_from ranks object (things ∷ contents) = are_above ranks (rank_of ranks object) things && rise_from ranks (object + 1) contents

@@ -1,8 +1,10 @@
 //! Where sentences put an object in what stands in it, by all the places told so far.
-ghost use Rattle.std.specs.Prelude.{◌≡◌, ◌++◌, slice_set, true, IfOk, OnOk};
-ghost use Rattle.i7_kinds.specs.Cycles.{emptied, encloses, is_unseen, nothing_in, things_in, unseen, with_put, with_thing};
+ghost use Rattle.std.specs.Prelude.{◌≡◌, ◌++◌, ◌≤◌, length, slice_set, take, true, IfOk, None, OnOk};
+ghost use Rattle.i7_claims.specs.Scans.{lower};
+ghost use Rattle.i7_kinds.specs.Cycles.{contents_by, emptied, encloses, is_unseen, nothing_in, things_in, unseen, with_put, with_thing};
 ghost use Rattle.i7_kinds.specs.Places.{holder_cycle, is_holder_cycle};
 
+use crate::ranks::{ranks_of, rise};
 use crate::scope::Scope;
 use i7_claims::{Claim, Fact, lower};
 use std::alloc::{AllocError, Global};
@@ -11,7 +13,7 @@ use std::marker::Model;
 
 /// The things that were put in an object, by their numbers.
 #[derive(Drop)]
-struct Held {
+pub struct Held {
     things: Vec<usize>,
 }
 
@@ -34,7 +36,8 @@ impl Held {
         }
     }
 
-    fn things(&self) -> &[usize]
+    /// These things.
+    pub fn things(&self) -> &[usize]
         ensures { result.now ≡ self.now }
     {
         self.things.as_slice()
@@ -128,8 +131,13 @@ fn open(
     Ok(())
 }
 
-/// Goes through what is in an object, and what is in that, up to another.
-fn search(alloc: Global, contents: &[Held], object: usize, other: usize) -> Result<bool, AllocError>
+/// Whether an object is another or has it in it, as a walk through what is in it tells.
+fn encloses(
+    alloc: Global,
+    contents: &[Held],
+    object: usize,
+    other: usize,
+) -> Result<bool, AllocError>
     ensures { IfOk result (λ found. found ≡ encloses contents.now object other) }
 {
     let mut seen = vec![in alloc; false; contents.len()]?;
@@ -142,21 +150,6 @@ fn search(alloc: Global, contents: &[Held], object: usize, other: usize) -> Resu
         open(contents, &mut seen, &mut todo, at)?;
     }
     Ok(false)
-}
-
-/// Whether an object is another or has it in it. Most things have nothing in them, and take no memory.
-fn encloses(
-    alloc: Global,
-    contents: &[Held],
-    object: usize,
-    other: usize,
-) -> Result<bool, AllocError>
-    ensures { IfOk result (λ found. found ≡ encloses contents.now object other) }
-{
-    if things_in(contents, object).is_empty() {
-        return Ok(object == other);
-    }
-    search(alloc, contents, object, other)
 }
 
 /// Puts the thing of a fact in its holder, and tells whether that stood in it.
@@ -181,7 +174,101 @@ fn put_closing(
     }
 }
 
-/// The lowest line of a place that closes a cycle of holders.
+/// Puts the thing of a fact in its holder.
+fn put(scope: &Scope<'_>, contents: &mut Vec<Held>, fact: &Fact) -> Result<(), AllocError>
+    ensures { OnOk result (contents.new.items ≡ with_put scope.now.objects contents.old.items fact.now) }
+{
+    match fact {
+        Fact::Placed(placing) => {
+            let thing = scope.object(placing.thing.as_slice());
+            put_in(contents, thing, scope.object(placing.holder.as_slice()))
+        }
+        _ => Ok(()),
+    }
+}
+
+/// What claims put in each object.
+fn contents_by(alloc: Global, scope: &Scope<'_>, claims: &[Claim]) -> Result<Vec<Held>, AllocError>
+    ensures { IfOk result (λ contents. contents.items ≡ contents_by scope.now.objects claims.now) }
+{
+    let mut contents = nothing_in(alloc, scope.count())?;
+    let mut rest = claims;
+    while let [claim, after @ ..] = rest {
+        put(scope, &mut contents, &claim.fact)?;
+        rest = after;
+    }
+    Ok(contents)
+}
+
+/// Whether objects can be ranked by what claims put in each, so that none of these places closes a cycle.
+fn are_ranked(alloc: Global, scope: &Scope<'_>, claims: &[Claim]) -> Result<bool, AllocError>
+    ensures { IfOk result (λ ranked. ranked ≡ true → holder_cycle scope.now.objects claims.now ≡ None) }
+{
+    let contents = contents_by(alloc, scope, claims)?;
+    let ranks = ranks_of(alloc, contents.as_slice())?;
+    Ok(rise(ranks.as_slice(), contents.as_slice()))
+}
+
+/// How many claims there are in front of the first place that closes a cycle, found by halves.
+fn quiet_front(alloc: Global, scope: &Scope<'_>, claims: &[Claim]) -> Result<usize, AllocError>
+    ensures within { IfOk result (λ front. front ≤ length claims.now) }
+    ensures quiet { IfOk result (λ front. holder_cycle scope.now.objects (take front claims.now) ≡ None) }
+{
+    let mut front = 0;
+    let mut end = claims.len();
+    while end - front > 1 {
+        let half = front + (end - front) / 2;
+        if are_ranked(alloc, scope, &claims[..half])? {
+            front = half;
+        } else {
+            end = half;
+        }
+    }
+    Ok(front)
+}
+
+/// The lowest line so far with that of a claim, if its place closes a cycle, which isn't asked where it changes nothing.
+fn lower_with(
+    alloc: Global,
+    scope: &Scope<'_>,
+    contents: &mut Vec<Held>,
+    claim: &Claim,
+    found: Option<u32>,
+) -> Result<Option<u32>, AllocError>
+    ensures put { OnOk result (contents.new.items ≡ with_put scope.now.objects contents.old.items claim.now.fact) }
+    ensures lowest { IfOk result (λ next. next ≡ lower (is_holder_cycle scope.now.objects contents.old.items claim.now.fact) claim.now.line found) }
+{
+    if let Some(line) = found {
+        if line <= claim.line {
+            put(scope, contents, &claim.fact)?;
+            return Ok(found);
+        }
+    }
+    let closes = put_closing(alloc, scope, contents, &claim.fact)?;
+    Ok(lower(closes, claim.line, found))
+}
+
+/// The lowest line of a place that closes a cycle of holders, behind claims of which none does.
+fn lowest_behind(
+    alloc: Global,
+    scope: &Scope<'_>,
+    front: &[Claim],
+    claims: &[Claim],
+) -> Result<Option<u32>, AllocError>
+    requires { holder_cycle scope.now.objects front.now ≡ None }
+    ensures { IfOk result (λ found. found ≡ holder_cycle scope.now.objects (front.now ++ claims.now)) }
+{
+    let mut contents = contents_by(alloc, scope, front)?;
+    let mut found = None;
+    let mut rest = claims;
+    while let [claim, after @ ..] = rest {
+        found = lower_with(alloc, scope, &mut contents, claim, found)?;
+        rest = after;
+    }
+    Ok(found)
+}
+
+/// The lowest line of a place that closes a cycle of holders. Mostly there is none, as one look at all places tells.
 pub fn holder_cycle(
     alloc: Global,
     scope: &Scope<'_>,
@@ -189,13 +276,9 @@ pub fn holder_cycle(
 ) -> Result<Option<u32>, AllocError>
     ensures { IfOk result (λ found. found ≡ holder_cycle scope.now.objects claims.now) }
 {
-    let mut contents = nothing_in(alloc, scope.count())?;
-    let mut found = None;
-    let mut rest = claims;
-    while let [claim, after @ ..] = rest {
-        let closes = put_closing(alloc, scope, &mut contents, &claim.fact)?;
-        found = lower(closes, claim.line, found);
-        rest = after;
+    if are_ranked(alloc, scope, claims)? {
+        return Ok(None);
     }
-    Ok(found)
+    let (front, behind) = claims.split_at(quiet_front(alloc, scope, claims)?);
+    lowest_behind(alloc, scope, front, behind)
 }

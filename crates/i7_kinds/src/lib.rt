@@ -22,6 +22,7 @@ mod numbers;
 mod objects;
 mod places;
 mod properties;
+mod ranks;
 mod refusal_laws;
 mod scope;
 mod suits;

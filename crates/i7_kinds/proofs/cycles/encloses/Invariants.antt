@@ -1,6 +1,6 @@
 use Rattle.std.proofs.Common.{◌≡◌, ◌+◌, length}
 use Rattle.i7_kinds.specs.Cycles.{comes_to, encloses, things_held, unseen}
-use Rattle.i7_kinds.proofs.cycles.search.Given as goal
+use Rattle.i7_kinds.proofs.cycles.encloses.Given as goal
 
 -- the walk that is left finds what the whole walk finds
 abbrev pub invariant-loop-at : goal.invariant-loop-at
