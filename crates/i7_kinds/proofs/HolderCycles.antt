@@ -9,7 +9,7 @@ use Rattle.i7_claims.specs.Numbers.{number_in}
 use Rattle.i7_claims.specs.declared.claim.Claim.{Claim}
 use Rattle.i7_claims.specs.declared.claim.Fact.{Fact}
 use Rattle.i7_claims.specs.declared.claim.Fact.TheVariants.{Placed}
-use Rattle.i7_kinds.specs.Cycles.{Contents, IsPut, Leads, Puts, emptied, encloses, itself, nothing_in, things_held, things_in, up, walk, with_put, with_put_of, with_thing}
+use Rattle.i7_kinds.specs.Cycles.{Contents, IsPut, Leads, Puts, contents_by, emptied, encloses, itself, nothing_in, things_held, things_in, up, walk, with_put, with_put_of, with_thing}
 use Rattle.i7_kinds.proofs.Bounds.{number-within}
 
 -- a thing is in a holder
@@ -210,8 +210,8 @@ module _ (objects : List (List ℕ)) where
   nothing_room = let none : List ℕ = [] in omega (arith, length-replicate (length objects + 1) none)
 
   -- what claims put where is in the contents that they leave
-  pub put_decides : (claims : List Claim) (x h : ℕ) → (IsIn (fold (with_put_of objects) (nothing_in (length objects)) claims) x h → IsPut objects claims x h)
-      × (IsPut objects claims x h → IsIn (fold (with_put_of objects) (nothing_in (length objects)) claims) x h)
+  pub put_decides : (claims : List Claim) (x h : ℕ) → (IsIn (contents_by objects claims) x h → IsPut objects claims x h)
+      × (IsPut objects claims x h → IsIn (contents_by objects claims) x h)
   put_decides claims x h = (
     λ i. ⊎_elim
         (λ none. absurd (none_in x (subst (λ (things : List ℕ). Contains things x) (nothing_at (length objects + 1) h) none)))
