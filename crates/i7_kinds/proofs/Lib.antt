@@ -25,6 +25,9 @@ pub mod ObjectsBehind
 pub mod UnderKinds
 pub mod Fines
 pub mod Setting
+pub mod HolderCycles
+pub mod Walks
+pub mod Rising
 pub mod Placed
 pub mod PlaceScans
 pub mod ValueScans

@@ -1,5 +1,6 @@
 pub mod Actions
 pub mod Bounds
+pub mod Cycles
 pub mod Demands
 pub mod Described
 pub mod Doors

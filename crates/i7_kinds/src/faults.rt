@@ -16,11 +16,12 @@ ghost use Rattle.i7_kinds.specs.Values.{value_twice};
 ghost use Rattle.i7_kinds.specs.declared.values.Bearer.TheVariants.{Objects, Kinds, Variables};
 
 use crate::author_kinds::{kind_cycle, kind_too_many, unknown_kind};
+use crate::cycles::holder_cycle;
 use crate::descriptions::Descriptions;
 use crate::doors::door_twice;
 use crate::kinds::wrong_kind;
 use crate::knowns::Known;
-use crate::places::{holder_cycle, second_place};
+use crate::places::second_place;
 use crate::scope::Scope;
 use crate::suits::unsuited;
 use crate::value_kinds::unlisted;

@@ -5,6 +5,7 @@
 mod actions;
 mod author_kinds;
 mod claim_laws;
+mod cycles;
 mod declaring;
 mod descriptions;
 mod doors;
@@ -21,6 +22,7 @@ mod numbers;
 mod objects;
 mod places;
 mod properties;
+mod ranks;
 mod refusal_laws;
 mod scope;
 mod suits;
