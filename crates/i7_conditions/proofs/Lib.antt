@@ -14,6 +14,7 @@ mod Leveled
 pub mod Listing
 mod Nested
 pub mod Once
+pub mod Parted
 pub mod Predicated
 mod Questions
 pub mod Readings
