@@ -12,6 +12,7 @@ mod Done
 mod Kept
 mod Leveled
 pub mod Listing
+mod Long
 mod Nested
 pub mod Once
 pub mod Parted
