@@ -53,6 +53,9 @@ save_rule("rule_conditions", "Every turn when x is y", " and x is y", ":\n\tsay 
 save_rule("rule_alternatives", "Every turn when x is y", " or x is y", ":\n\tsay \"a\".")
 save_rule("rule_sum", "Every turn, now x is x", " plus x", ".")
 save_rule("rule_rooms", "Every turn, move x to the room", " north from the room", " x.")
+save_rule("rule_moves", "Every turn, move x", " to x", ".")
+save_rule("rule_gifts", "Every turn, now x", " carries", " x.")
+save_rule("rule_verbs", "Every turn when x", " has", " x, rule fails.")
 save_rule("rule_phrases", "Every turn:", "\n\trule fails;", "")
 save_rule("rule_inline_ifs", "Every turn:", "\n\tif x is y, rule fails; otherwise rule fails;", "")
 save_rule("rule_words", "Every turn, say ", "x ", "\"a\".")
@@ -286,7 +289,7 @@ for source in *.i7; do
     understand_texts.i7 | understand_words_of_one.i7 | understand_long_words.i7 | understand_words_among_things.i7 | understand_sentences.i7 | understand_lines.i7 | understand_actions.i7) want=0 limit=unlimited ;;
     understand_unknown.i7 | understand_texts_too_many.i7 | understand_long_text.i7 | understand_longer_text.i7 | understand_meaning.i7) limit=unlimited ;;
     actions_in_places.i7 | actions_many.i7 | actions_of_one_name.i7 | actions_of_near_names.i7 | actions_of_one_front.i7 | actions_tried.i7) limit=unlimited ;;
-    closed_texts.i7 | rule_colons.i7 | scene_changes.i7 | rule_pattern_words.i7 | rule_substitutions.i7 | rules_many.i7 | long_*) limit=unlimited ;;
+    closed_texts.i7 | rule_colons.i7 | rule_moves.i7 | rule_gifts.i7 | rule_verbs.i7 | scene_changes.i7 | rule_pattern_words.i7 | rule_substitutions.i7 | rules_many.i7 | long_*) limit=unlimited ;;
   esac
   (ulimit -v "$limit"; exec timeout 1 "$program" compile "$source" story) 2>err </dev/null
   status=$?

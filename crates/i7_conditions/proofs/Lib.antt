@@ -12,8 +12,10 @@ mod Done
 mod Kept
 mod Leveled
 pub mod Listing
+mod Long
 mod Nested
 pub mod Once
+pub mod Parted
 pub mod Predicated
 mod Questions
 pub mod Readings

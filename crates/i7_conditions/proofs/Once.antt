@@ -1,15 +1,15 @@
 -- Words ask one condition at most.
-use Rattle.std.proofs.Common.{◌≡◌, ℕ, List, [], ◌∷◌, take, sym, ap, ◌∙◌, subst, arith, inl, inr}
-use Rattle.std.specs.Prelude.{Option, Some, None, nat_lt}
+use Rattle.std.proofs.Common.{◌≡◌, ℕ, List, [], ◌∷◌, take, sym, ap, ◌∙◌, subst}
+use Rattle.std.specs.Prelude.{Option, Some, None}
 use Rattle.std.specs.List.{slice_split}
-use Rattle.std.proofs.lemmas.Bool.{ltb-true, ltb-false, cases_Bool}
 use Rattle.world_meaning.specs.declared.place.Rel.{Rel}
 use Rattle.play_meaning.specs.Meant.{quality_meant}
 use Rattle.play_meaning.specs.Trees as tree
-use Rattle.play_meaning.specs.Trees.{Condition, Object}
+use Rattle.play_meaning.specs.Trees.{Condition}
 use Rattle.play_meaning.specs.declared.tree.object.Quality.{Quality}
 use Rattle.i7_conditions.specs.Adjectives.{quality_named}
-use Rattle.i7_conditions.specs.Clauses.{Asks, AsksBy, AsksByVerb, AsksIn, Compared, Denied, Does, HasText, InTheDark, NotInTheDark, OfNumbers, OfObject, OfScene, OfValue, Plainly, StandsAt, behind_not, compared, comparison_at, done_by, has_value, scene_named, split_is}
+use Rattle.i7_conditions.specs.Between.{IsParted}
+use Rattle.i7_conditions.specs.Clauses.{Asks, AsksBy, AsksByVerb, AsksIn, Compared, Denied, Does, HasText, InTheDark, NotInTheDark, OfNumbers, OfObject, OfScene, OfValue, Plainly, asked_of, behind_not, compared, comparison_at, has_value, scene_named, spelling, split_is}
 use Rattle.i7_conditions.specs.Conditions.{AsksAll, IsCondition, Joins, JoinsBehind, is_and, is_or}
 use Rattle.i7_conditions.specs.Describing.{Describes}
 use Rattle.i7_conditions.specs.Numbers.{CountsAs}
@@ -25,8 +25,9 @@ use Rattle.i7_conditions.specs.declared.verb.Verb.{Verb}
 use Rattle.i7_conditions.specs.declared.verb.Verb.TheVariants.{Carries, Encloses, Has, Wears}
 use Rattle.i7_conditions.proofs.Counting.{counted_once}
 use Rattle.i7_conditions.proofs.Described.{described_once}
-use Rattle.i7_conditions.proofs.Done.{at_end, same_place}
+use Rattle.i7_conditions.proofs.Done.{at_end}
 use Rattle.i7_conditions.proofs.Listing.{IsOnce, Made, at_once, first_once, made_once, two_once}
+use Rattle.i7_conditions.proofs.Parted.{parted_once}
 use Rattle.i7_conditions.proofs.Readings.{meant_once}
 use Rattle.i7_conditions.proofs.Valued.{value_once}
 
@@ -66,26 +67,8 @@ has_text_once s words c d a b =
     let same : a.0 ≡ b.0 = at_end words a.0 a.2 ∙ sym (at_end words b.0 b.2) in
     a.4 ∙ ap tree.HasDescription (meant_once s (take a.0 words) a.1 b.1 a.3 (subst (λ (n : ℕ). Means s (take n words) b.1) (sym same) b.3)) ∙ sym b.4
 
-one_place : (s : Scope) (verb : Verb) (words : List Word) (c d : Condition) (a : Does s verb words c) (b : Does s verb words d) → a.n ≡ b.n
-one_place s verb words c d a b =
-    elim (cases_Bool (nat_lt a.n b.n)) [
-      | inl lt ↦ absurd (b.shortest a.n (ltb-true _ _ lt) a.holder a.o a.stands)
-      | inr ge ↦ elim (cases_Bool (nat_lt b.n a.n)) [
-        | inl lt ↦ absurd (a.shortest b.n (ltb-true _ _ lt) b.holder b.o b.stands)
-        | inr le ↦ omega (arith, ltb-false _ _ ge, ltb-false _ _ le)
-      ]
-    ]
-
-stands_once : (s : Scope) (verb : Verb) (words : List Word) (n : ℕ) (holder other o p : Object) → StandsAt s verb words n holder o → StandsAt s verb words n other p → done_by verb holder o ≡ done_by verb other p
-stands_once s verb words n holder other o p a b =
-    let same = same_place words a.rest n a.word b.word b.rest a.at b.at in
-    let means : Means s a.rest p = subst (λ (rest : List Word). Means s rest p) same.1 b.object in
-    ap (λ (h : Object). done_by verb h o) (meant_once s (take n words) holder other a.subject b.subject) ∙ ap (done_by verb other) (meant_once s a.rest o p a.object means)
-
 does_once : (s : Scope) (verb : Verb) (words : List Word) → IsOnce (Does s verb words)
-does_once s verb words c d a b =
-    let stands : StandsAt s verb words a.n b.holder b.o = subst (λ (n : ℕ). StandsAt s verb words n b.holder b.o) (sym (one_place s verb words c d a b)) b.stands in
-    a.asked ∙ stands_once s verb words a.n a.holder b.holder a.o b.o a.stands stands ∙ sym b.asked
+does_once s verb words = made_once (asked_of verb) (IsParted s (spelling verb) words) (parted_once s (spelling verb) words)
 
 done_once : (s : Scope) (words : List Word) → IsOnce (AsksByVerb s words)
 done_once s words =

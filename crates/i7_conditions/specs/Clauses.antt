@@ -1,9 +1,10 @@
 -- Which question a clause of a condition asks (*Writing with Inform*, 11.7 and 11.8).
-use Rattle.std.specs.Prelude.{◌≡◌, ℕ, ◌<◌, Bool, true, false, ◌&&◌, ◌||◌, List, [], ◌∷◌, take, drop, Option, Some, None, codes, if◌then◌else◌}
+use Rattle.std.specs.Prelude.{◌≡◌, ℕ, Bool, true, false, ◌&&◌, ◌||◌, List, [], ◌∷◌, take, drop, Option, Some, None, codes, if◌then◌else◌}
 use Rattle.std.specs.List.{position_or_len}
 use Rattle.world_meaning.specs.Spelling.{is_spelled}
 use Rattle.world_meaning.specs.declared.place.Rel.TheVariants.{Carried, Worn}
 use Rattle.play_meaning.specs.Trees as tree
+use Rattle.i7_conditions.specs.Between.{Both, IsParted}
 use Rattle.i7_conditions.specs.Keys.{around, known, plain_key}
 use Rattle.i7_conditions.specs.Numbers.{CountsAs}
 use Rattle.i7_conditions.specs.Objects.{Means}
@@ -101,11 +102,11 @@ AsksBy s subject predicate = FirstOf (Plainly s subject predicate) (FirstOf (Den
 
 -- ---- verbs
 
-unfoldable pub is_verb : Verb → Word → Bool
-is_verb Carries word = is_spelled word (codes "carries")
-is_verb Wears word = is_spelled word (codes "wears")
-is_verb Has word = is_spelled word (codes "has")
-is_verb Encloses word = is_spelled word (codes "encloses")
+abbrev pub spelling : Verb → List ℕ
+spelling Carries = codes "carries"
+spelling Wears = codes "wears"
+spelling Has = codes "has"
+spelling Encloses = codes "encloses"
 
 abbrev pub done_by : Verb → tree.Object → tree.Object → tree.Condition
 done_by Carries holder o = tree.IsHeld o Carried holder
@@ -113,23 +114,11 @@ done_by Wears holder o = tree.IsHeld o Worn holder
 done_by Has holder o = tree.Has holder o
 done_by Encloses holder o = tree.Encloses holder o
 
--- a verb behind n words, with an object in front and one behind; these are all the words
-pub record StandsAt (s : Scope) (verb : Verb) (words : List Word) (n : ℕ) (holder o : tree.Object) : Type 0 where
-  pub word : Word
-  pub rest : List Word
-  pub at : drop n words ≡ word ∷ rest
-  pub is : is_verb verb word ≡ true
-  pub subject : Means s (take n words) holder
-  pub object : Means s rest o
+abbrev pub asked_of : Verb → Both → tree.Condition
+asked_of verb both = done_by verb both.0 both.1
 
--- names may hold these words: the shortest first part is meant
-pub record Does (s : Scope) (verb : Verb) (words : List Word) (c : tree.Condition) : Type 0 where
-  pub n : ℕ
-  pub holder : tree.Object
-  pub o : tree.Object
-  pub stands : StandsAt s verb words n holder o
-  pub shortest : (k : ℕ) → k < n → (h p : tree.Object) → StandsAt s verb words k h p → ⊥
-  pub asked : c ≡ done_by verb holder o
+abbrev pub Does : Scope → Verb → List Word → tree.Condition → Type 0
+Does s verb words c = (both : Both) × IsParted s (spelling verb) words both × (c ≡ asked_of verb both)
 
 abbrev pub is_a_description : List Word → Bool
 is_a_description (first ∷ second ∷ third ∷ []) = is_spelled first (codes "has") && is_spelled second (codes "a") && is_spelled third (codes "description")

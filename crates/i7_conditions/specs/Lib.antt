@@ -1,5 +1,6 @@
 pub mod Adjectives
 pub mod Asking
+pub mod Between
 pub mod ClauseForms
 pub mod Clauses
 pub mod Conditions

@@ -1,5 +1,5 @@
 -- Words that name an object as openings and names, in their order.
-use Rattle.std.specs.Prelude.{Bool, ◌&&◌, List, [], ◌∷◌, ◌++◌, flat_map, Option, Some, None, if◌then◌else◌}
+use Rattle.std.specs.Prelude.{nat_lt, Bool, ◌&&◌, List, [], ◌∷◌, ◌++◌, length, flat_map, Option, Some, None, is_none, if◌then◌else◌}
 use Rattle.std.specs.List.{list_any, slice_split}
 use Rattle.world_meaning.specs.Spelling.{is_article}
 use Rattle.i7_conditions.specs.Plain.{plainly_named}
@@ -63,6 +63,10 @@ marks_behind s (Some parts) = parts.0 ∷ marks_in s parts.1
 -- words that hold a `from` begin with an opening
 abbrev pub marks_beyond : Scope → List Word → List Mark
 marks_beyond s words = marks_behind s (split_opening words)
+
+-- words that are too many for a name and open nothing name nothing, which is told without a look at them all
+abbrev pub names_nothing : List Word → Bool
+names_nothing words = nat_lt 33 (length words) && is_none (split_opening words)
 
 abbrev pub mark_named : Option Mark → Mark
 mark_named None = Unknown

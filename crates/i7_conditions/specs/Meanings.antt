@@ -4,7 +4,6 @@ use Rattle.std.specs.Option.{option_or}
 use Rattle.indexmap.specs.IndexMap.{IndexMap, get_by}
 use Rattle.std.specs.Global.{Vec}
 use Rattle.i7_conditions.specs.declared.meaning.Meaning.{Meaning}
-use Rattle.i7_conditions.specs.declared.meaning.Meaning.TheVariants as meaning
 
 abbrev pub Meanings : Type 0
 Meanings = List ℕ → Option Meaning

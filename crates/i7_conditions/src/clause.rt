@@ -32,7 +32,7 @@ fn before_is(words: &[TextBytes]) -> usize
 }
 
 /// The words in front of the first `is`, and those behind it.
-fn split_is(words: &[TextBytes]) -> Option<(&[TextBytes], &[TextBytes])>
+pub fn split_is(words: &[TextBytes]) -> Option<(&[TextBytes], &[TextBytes])>
     ensures { option_map (λ parts. (parts.0.now, parts.1.now)) result ≡ split_is words.now }
 {
     let (front, rest) = words.split_at(before_is(words));

@@ -4,6 +4,7 @@
 
 mod adjective;
 mod asking;
+mod between;
 mod clause;
 mod comparison;
 mod condition;
@@ -36,7 +37,8 @@ mod word;
 
 pub use adjective::{adjective_named, quality_named};
 pub use asking::scene_named;
-pub use clause::clause_of;
+pub use between::parted_said;
+pub use clause::{clause_of, split_is};
 pub use condition::{condition_of, condition_said, one_condition_is_meant};
 pub use description::{description_of, description_said, one_description_is_meant};
 pub use found::Found;

@@ -1,12 +1,12 @@
 //! Words that name an object as openings and names, in their order: of `the room north from the Hall` they are an opening,
 //! `north` and `the Hall`.
 ghost use Rattle.std.specs.Prelude.{◌≡◌, ◌≤◌, ◌++◌, length, option_map, IfOk, OnOk};
-ghost use Rattle.i7_conditions.specs.Marks.{has_from, mark_named, marks_beyond, marks_in, marks_of, opened, opening, run_marks, split_opening};
+ghost use Rattle.i7_conditions.specs.Marks.{has_from, mark_named, marks_beyond, marks_in, marks_of, names_nothing, opened, opening, run_marks, split_opening};
 ghost use Rattle.i7_conditions.specs.Scopes.{scope_of};
 
 use crate::joint::{Joint, cut};
 use crate::mark::Mark;
-use crate::plain::plainly_named;
+use crate::plain::{MOST_WORDS, plainly_named};
 use crate::scope::Scope;
 use crate::word::{begins_beyond, beyond_of, is_from, without_article};
 use std::alloc::{AllocError, Global};
@@ -139,7 +139,15 @@ fn add_beyond(
     }
 }
 
-/// The marks of words.
+/// Whether words are too many for a name and open nothing.
+fn names_nothing(words: &[TextBytes]) -> bool
+    ensures { result ≡ names_nothing words.now }
+{
+    words.len() > MOST_WORDS + 1 && split_opening(words).is_none()
+}
+
+/// The marks of words. Of many that open nothing not all are looked at, since a row of verbs is asked at each of them.
+#[tactic(auto, using(crate::proofs::Long::nothing_named))]
 pub fn marks_of(
     alloc: Global,
     scope: &Scope<'_>,
@@ -149,7 +157,9 @@ pub fn marks_of(
     ensures { IfOk result (λ marks. marks.items ≡ marks_of (scope_of scope.now) words.now) }
 {
     let mut marks = Vec::new(alloc);
-    if has_from(words) {
+    if names_nothing(words) {
+        marks.push(Mark::Unknown)?;
+    } else if has_from(words) {
         add_beyond(alloc, scope, words, &mut marks)?;
     } else {
         let found = plainly_named(alloc, scope, words)?;

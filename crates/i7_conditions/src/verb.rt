@@ -1,10 +1,10 @@
 //! What an object does to another: `carries`, `wears`, `has` and `encloses`.
 ghost use Rattle.std.specs.Prelude.{◌≡◌};
 ghost use Rattle.play_meaning.specs.Meant.{basic_meant, object_meant};
-ghost use Rattle.i7_conditions.specs.Clauses.{done_by, is_verb};
+ghost use Rattle.i7_conditions.specs.Clauses.{done_by, spelling};
 
 use play_meaning::tree::{Basic, Referent};
-use world_meaning::{Rel, TextBytes, is_spelled};
+use world_meaning::Rel;
 
 /// A verb between two objects.
 #[derive(Clone, Copy, Debug, PartialEq, Eq)]
@@ -16,16 +16,15 @@ pub enum Verb {
     Encloses,
 }
 
-/// Whether a word is the verb.
-#[tactic(auto, unfolding(crate::specs::Clauses::is_verb))]
-pub fn is_verb(verb: Verb, word: &TextBytes) -> bool
-    ensures { result ≡ is_verb verb word.now }
+/// How the verb is spelled.
+pub fn spelling(verb: Verb) -> &'static [u8]
+    ensures { result.now ≡ spelling verb }
 {
     match verb {
-        Verb::Carries => is_spelled(word.as_slice(), b"carries"),
-        Verb::Wears => is_spelled(word.as_slice(), b"wears"),
-        Verb::Has => is_spelled(word.as_slice(), b"has"),
-        Verb::Encloses => is_spelled(word.as_slice(), b"encloses"),
+        Verb::Carries => b"carries",
+        Verb::Wears => b"wears",
+        Verb::Has => b"has",
+        Verb::Encloses => b"encloses",
     }
 }
 

@@ -1,11 +1,9 @@
 -- What phrases that change the world are found to do is what they do.
 use Rattle.std.proofs.Common.{◌≡◌, ℕ, Bool, true, false, ◌||◌, List, refl, sym, ap, ◌∙◌, subst, inl, inr}
-use Rattle.std.specs.Prelude.{Option, Some, None}
+use Rattle.std.specs.Prelude.{Option, Some, None, codes}
 use Rattle.std.proofs.lemmas.Bool.{cases_Bool}
 use Rattle.world_meaning.specs.declared.place.Rel.{Rel}
 use Rattle.world_meaning.specs.declared.place.Rel.TheVariants.{Carried, Worn}
-use Rattle.i7_sentences.specs.declared.phrase_form.NowVerb.{NowVerb}
-use Rattle.i7_sentences.specs.declared.phrase_form.NowVerb.TheVariants as now
 use Rattle.i7_sentences.specs.declared.spoken.Spoken.{Spoken}
 use Rattle.i7_sentences.specs.declared.spoken.Spoken.TheVariants as spoken
 use Rattle.play_meaning.specs.Meant.{by_operator}
@@ -13,6 +11,8 @@ use Rattle.play_meaning.specs.Trees as tree
 use Rattle.play_meaning.specs.declared.tree.number.Operator.{Operator}
 use Rattle.play_meaning.specs.declared.tree.number.Operator.TheVariants.{Minus, Plus, Times}
 use Rattle.i7_conditions.specs.Adjectives.{adjective_named, quality_named}
+use Rattle.i7_conditions.specs.Between.{IsParted, is_one_deep, parted_said}
+use Rattle.i7_conditions.specs.Clauses.{split_is}
 use Rattle.i7_conditions.specs.Joining.{number_said}
 use Rattle.i7_conditions.specs.Keys.{property_named, split_of, variable_named}
 use Rattle.i7_conditions.specs.Numbers.{CountsAs}
@@ -29,15 +29,16 @@ use Rattle.i7_conditions.specs.declared.found.Found.{Found}
 use Rattle.i7_conditions.specs.declared.found.Found.TheVariants.{Read, TooMany, Unread}
 use Rattle.i7_conditions.proofs.Asked.{number_found}
 use Rattle.i7_conditions.proofs.Listing.{Made, MadeAt, MadeOfTwo, none_found, one_found, or_found, some_found, two_found}
+use Rattle.i7_conditions.proofs.Parted.{parted_found}
 use Rattle.i7_conditions.proofs.Predicated.{object_found}
 use Rattle.i7_conditions.proofs.Valued.{value_found}
 use Rattle.i7_phrases.specs.CellForms.{cell_said, property_by, property_said, variable_said}
 use Rattle.i7_phrases.specs.Cells.{Cell, IsCell, IsProperty, IsVariable, PropertyOf, Variable, set}
-use Rattle.i7_phrases.specs.ChangeForms.{added, adds_said, away_said, from_away, from_put, from_set, from_value, given_so, gives_said, held_so, made_so, made_valued, moves_said, now_said, put_said, set_said, so_said, value_given, valued_said}
-use Rattle.i7_phrases.specs.Changes.{Adds, Gives, GivesValue, MakesSo, MakesValued, Moves, Now, PutsIn, Sets, SetsValue, TakesAway, flag_of, given, is_nowhere, value_of}
+use Rattle.i7_phrases.specs.ChangeForms.{added, adds_said, away_said, becomes_in, becomes_said, from_away, from_gives, from_put, from_set, from_value, gives_said, held_so, made_so, made_valued, moves_said, now_said, put_said, set_said, so_said, value_given, valued_said}
+use Rattle.i7_phrases.specs.Changes.{Adds, Becomes, BecomesIn, Gives, GivesValue, MakesSo, MakesValued, Moves, Now, PutsIn, Sets, SetsValue, TakesAway, flag_of, given, given_so, is_nowhere, moved_so, value_of}
 use Rattle.i7_phrases.specs.Limits.{phrase_is_over}
-use Rattle.i7_phrases.specs.PhraseForms.{by_verb, change_said}
-use Rattle.i7_phrases.specs.Phrases.{ByVerb, Changes, is_change}
+use Rattle.i7_phrases.specs.PhraseForms.{change_said}
+use Rattle.i7_phrases.specs.Phrases.{Changes, is_change}
 use Rattle.i7_phrases.specs.Told.{IsToldOf}
 
 -- ---- what holds a number
@@ -128,9 +129,9 @@ values_found s subject behind =
     or_found (GivesValue s subject behind) (MakesValued s subject behind) phrase_is_over (value_given s subject behind) (valued_said s subject (value_of (quality_named s behind))) (given_found s subject behind)
     (valued_found s subject behind (value_of (quality_named s behind)) refl)
 
-pub now_found : (s : Scope) (subject behind : List Word) → IsFoundAs (Now s subject behind) phrase_is_over (now_said s subject behind)
-unfolding now_said
-now_found s subject behind =
+becomes_found : (s : Scope) (subject behind : List Word) → IsFoundAs (Becomes s subject behind) phrase_is_over (becomes_said s subject behind)
+unfolding becomes_said
+becomes_found s subject behind =
     or_found (MakesSo s subject behind) (FirstOf (PutsIn s subject behind) (FirstOf (TakesAway s subject behind) (FirstOf (Sets s subject behind) (SetsValue s subject behind)))) phrase_is_over
     (so_said s subject (flag_of (adjective_named s behind))) (from_put s subject behind) (so_found s subject behind (flag_of (adjective_named s behind)) refl)
     (or_found (PutsIn s subject behind) (FirstOf (TakesAway s subject behind) (FirstOf (Sets s subject behind) (SetsValue s subject behind))) phrase_is_over (put_said s subject (relation_at behind)) (from_away s subject behind)
@@ -146,15 +147,25 @@ or_swapped true false = refl
 or_swapped false true = refl
 or_swapped false false = refl
 
-pub gives_found : (relation : Rel) (s : Scope) (holder thing : List Word) → IsFoundAs (Gives relation s holder thing) phrase_is_over (gives_said relation s holder thing)
-unfolding gives_said
-gives_found relation s holder thing =
-    two_found (given_so relation) (Means s holder) (Means s thing) is_deep is_deep phrase_is_over (λ h o. or_swapped (is_deep h) (is_deep o)) (object_said s holder) (object_said s thing) (object_found s holder) (object_found s thing)
+gives_found : (relation : Rel) (verb : List ℕ) (s : Scope) (words : List Word) → IsFoundAs (Gives relation verb s words) phrase_is_over (gives_said relation verb s words)
+gives_found relation verb s words =
+    one_found (given_so relation) (IsParted s verb words) is_one_deep phrase_is_over (λ both. or_swapped (is_deep both.0) (is_deep both.1)) (parted_said s verb words) (parted_found s verb words)
 
-pub moves_found : (s : Scope) (thing holder : List Word) → IsFoundAs (Moves s thing holder) phrase_is_over (moves_said s thing holder)
+becomes_in_found : (s : Scope) (parts : Option Around) → IsFoundAs (BecomesIn s parts) phrase_is_over (becomes_in s parts)
+becomes_in_found s None = λ p becomes. becomes
+becomes_in_found s (Some parts) = becomes_found s parts.0 parts.1
+
+now_found : (s : Scope) (words : List Word) → IsFoundAs (Now s words) phrase_is_over (now_said s words)
+unfolding now_said
+now_found s words =
+    or_found (BecomesIn s (split_is words)) (FirstOf (Gives Carried (codes "carries") s words) (Gives Worn (codes "wears") s words)) phrase_is_over
+    (becomes_in s (split_is words)) (from_gives s words) (becomes_in_found s (split_is words))
+    (or_found (Gives Carried (codes "carries") s words) (Gives Worn (codes "wears") s words) phrase_is_over (gives_said Carried (codes "carries") s words) (gives_said Worn (codes "wears") s words)
+    (gives_found Carried (codes "carries") s words) (gives_found Worn (codes "wears") s words))
+
+moves_found : (s : Scope) (words : List Word) → IsFoundAs (Moves s words) phrase_is_over (moves_said s words)
 unfolding moves_said
-moves_found s thing holder =
-    two_found tree.Move (Means s thing) (Means s holder) is_deep is_deep phrase_is_over (λ o h. refl) (object_said s thing) (object_said s holder) (object_found s thing) (object_found s holder)
+moves_found s words = one_found moved_so (IsParted s (codes "to") words) is_one_deep phrase_is_over (λ both. refl) (parted_said s (codes "to") words) (parted_found s (codes "to") words)
 
 or_twice : (a b : Bool) → (a || (a || b)) ≡ (a || b)
 or_twice true b = refl
@@ -176,14 +187,9 @@ adds_found operator s value amount =
 
 -- ---- all of them
 
-verb_found : (verb : NowVerb) (s : Scope) (subject behind : List Word) → IsFoundAs (ByVerb verb s subject behind) phrase_is_over (by_verb verb s subject behind)
-verb_found now.Is s subject behind = now_found s subject behind
-verb_found now.Carries s subject behind = gives_found Carried s subject behind
-verb_found now.Wears s subject behind = gives_found Worn s subject behind
-
 change_found : (s : Scope) (said : Spoken) → IsToldOf (is_change said) (Changes s said) phrase_is_over (change_said s said)
-change_found s (spoken.Now subject verb behind) = (refl, verb_found verb s subject behind)
-change_found s (spoken.Move thing holder) = (refl, moves_found s thing holder)
+change_found s (spoken.Now words) = (refl, now_found s words)
+change_found s (spoken.Move words) = (refl, moves_found s words)
 change_found s (spoken.Increase value amount) = (refl, adds_found Plus s value amount)
 change_found s (spoken.Decrease value amount) = (refl, adds_found Minus s value amount)
 change_found s (spoken.Say text) = refl

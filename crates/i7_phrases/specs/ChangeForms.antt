@@ -1,11 +1,14 @@
 -- What phrases that change the world do, by their words: one form after the other is tried.
-use Rattle.std.specs.Prelude.{ℕ, Bool, List, Option, None, Some, if◌then◌else◌}
+use Rattle.std.specs.Prelude.{ℕ, Bool, List, Option, None, Some, codes, if◌then◌else◌}
 use Rattle.world_meaning.specs.declared.place.Rel.{Rel}
+use Rattle.world_meaning.specs.declared.place.Rel.TheVariants.{Carried, Worn}
 use Rattle.play_meaning.specs.Meant.{by_operator, simple_meant}
 use Rattle.play_meaning.specs.Trees as tree
 use Rattle.play_meaning.specs.declared.tree.number.Operator.{Operator}
 use Rattle.play_meaning.specs.declared.tree.phrase.Simple.{Simple}
 use Rattle.i7_conditions.specs.Adjectives.{adjective_named, quality_named}
+use Rattle.i7_conditions.specs.Between.{parted_said}
+use Rattle.i7_conditions.specs.Clauses.{split_is}
 use Rattle.i7_conditions.specs.Joining.{number_said}
 use Rattle.i7_conditions.specs.Predicates.{object_said}
 use Rattle.i7_conditions.specs.Readings.{one, or_else, two}
@@ -17,7 +20,7 @@ use Rattle.i7_conditions.specs.declared.found.Found.{Found}
 use Rattle.i7_conditions.specs.declared.found.Found.TheVariants.{Read, TooMany, Unread}
 use Rattle.i7_phrases.specs.CellForms.{cell_said}
 use Rattle.i7_phrases.specs.Cells.{Cell, read, set}
-use Rattle.i7_phrases.specs.Changes.{flag_of, given, is_nowhere, value_of}
+use Rattle.i7_phrases.specs.Changes.{flag_of, given, given_so, is_nowhere, moved_so, value_of}
 
 abbrev pub found_simple : Found Simple → Found tree.Phrase
 found_simple (Read phrase) = Read (simple_meant phrase)
@@ -30,9 +33,6 @@ made_so flag o = tree.NowIs o flag.0 flag.1
 
 abbrev pub held_so : Rel → tree.Object → tree.Object → tree.Phrase
 held_so relation o holder = tree.NowHeld o relation holder
-
-abbrev pub given_so : Rel → tree.Object → tree.Object → tree.Phrase
-given_so relation holder o = tree.NowHeld o relation holder
 
 abbrev pub made_valued : ℕ × ℕ → tree.Object → tree.Phrase
 made_valued value o = tree.NowValued o value.0 value.1
@@ -77,16 +77,26 @@ from_away s subject behind = or_else (away_said s subject behind) (from_set s su
 abbrev pub from_put : Scope → List Word → List Word → Found tree.Phrase
 from_put s subject behind = or_else (put_said s subject (relation_at behind)) (from_away s subject behind)
 
-unfoldable pub now_said : Scope → List Word → List Word → Found tree.Phrase
-now_said s subject behind = or_else (so_said s subject (flag_of (adjective_named s behind))) (from_put s subject behind)
+unfoldable pub becomes_said : Scope → List Word → List Word → Found tree.Phrase
+becomes_said s subject behind = or_else (so_said s subject (flag_of (adjective_named s behind))) (from_put s subject behind)
 
 -- ---- the others
 
-unfoldable pub gives_said : Rel → Scope → List Word → List Word → Found tree.Phrase
-gives_said relation s holder thing = two (given_so relation) (object_said s holder) (object_said s thing)
+abbrev pub becomes_in : Scope → Option (List Word × List Word) → Found tree.Phrase
+becomes_in s None = Unread
+becomes_in s (Some parts) = becomes_said s parts.0 parts.1
 
-unfoldable pub moves_said : Scope → List Word → List Word → Found tree.Phrase
-moves_said s thing holder = two tree.Move (object_said s thing) (object_said s holder)
+abbrev pub gives_said : Rel → List ℕ → Scope → List Word → Found tree.Phrase
+gives_said relation verb s words = one (given_so relation) (parted_said s verb words)
+
+abbrev pub from_gives : Scope → List Word → Found tree.Phrase
+from_gives s words = or_else (gives_said Carried (codes "carries") s words) (gives_said Worn (codes "wears") s words)
+
+unfoldable pub now_said : Scope → List Word → Found tree.Phrase
+now_said s words = or_else (becomes_in s (split_is words)) (from_gives s words)
+
+unfoldable pub moves_said : Scope → List Word → Found tree.Phrase
+moves_said s words = one moved_so (parted_said s (codes "to") words)
 
 unfoldable pub adds_said : Operator → Scope → List Word → List Word → Found tree.Phrase
 adds_said operator s value amount = two (added operator) (cell_said s value) (number_said s amount)

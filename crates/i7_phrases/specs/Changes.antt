@@ -2,6 +2,7 @@
 use Rattle.std.specs.Prelude.{◌≡◌, ℕ, Bool, true, false, not, List, [], ◌∷◌, Option, None, Some, codes}
 use Rattle.world_meaning.specs.Spelling.{is_spelled}
 use Rattle.world_meaning.specs.declared.place.Rel.{Rel}
+use Rattle.world_meaning.specs.declared.place.Rel.TheVariants.{Carried, Worn}
 use Rattle.play_meaning.specs.Meant.{by_operator}
 use Rattle.play_meaning.specs.Trees as tree
 use Rattle.play_meaning.specs.declared.tree.number.Operator.{Operator}
@@ -11,6 +12,8 @@ use Rattle.play_meaning.specs.declared.tree.object.Quality.TheVariants.{Is, Touc
 use Rattle.play_meaning.specs.declared.tree.object.Side.{Side}
 use Rattle.play_meaning.specs.declared.tree.object.Side.TheVariants.{First, Second}
 use Rattle.i7_conditions.specs.Adjectives.{adjective_named, quality_named}
+use Rattle.i7_conditions.specs.Between.{Both, IsParted}
+use Rattle.i7_conditions.specs.Clauses.{split_is}
 use Rattle.i7_conditions.specs.Numbers.{CountsAs}
 use Rattle.i7_conditions.specs.Objects.{Means}
 use Rattle.i7_conditions.specs.Readings.{FirstOf}
@@ -79,18 +82,34 @@ abbrev pub SetsValue : Scope → List Word → List Word → tree.Phrase → Typ
 SetsValue s subject behind = FirstOf (GivesValue s subject behind) (MakesValued s subject behind)
 
 -- what `now SUBJECT is ..` does
-abbrev pub Now : Scope → List Word → List Word → tree.Phrase → Type 0
-Now s subject behind = FirstOf (MakesSo s subject behind) (FirstOf (PutsIn s subject behind) (FirstOf (TakesAway s subject behind) (FirstOf (Sets s subject behind) (SetsValue s subject behind))))
+abbrev pub Becomes : Scope → List Word → List Word → tree.Phrase → Type 0
+Becomes s subject behind =
+    FirstOf (MakesSo s subject behind) (FirstOf (PutsIn s subject behind) (FirstOf (TakesAway s subject behind) (FirstOf (Sets s subject behind) (SetsValue s subject behind))))
+
+-- words without an `is` make nothing so
+abbrev pub BecomesIn : Scope → Option (List Word × List Word) → tree.Phrase → Type 0
+BecomesIn s None p = ⊥
+BecomesIn s (Some parts) p = Becomes s parts.0 parts.1 p
 
 -- ---- the others
 
--- `now HOLDER carries OBJECT`, `now HOLDER wears OBJECT`
-abbrev pub Gives : Rel → Scope → List Word → List Word → tree.Phrase → Type 0
-Gives relation s holder thing p = (h : tree.Object) × (o : tree.Object) × Means s holder h × Means s thing o × (p ≡ tree.NowHeld o relation h)
+abbrev pub given_so : Rel → Both → tree.Phrase
+given_so relation both = tree.NowHeld both.1 relation both.0
+
+-- `now HOLDER carries OBJECT`, `now HOLDER wears OBJECT`, by the verb
+abbrev pub Gives : Rel → List ℕ → Scope → List Word → tree.Phrase → Type 0
+Gives relation verb s words p = (both : Both) × IsParted s verb words both × (p ≡ given_so relation both)
+
+-- names may hold `carries` and `wears`: of the readings that there are the first is meant
+abbrev pub Now : Scope → List Word → tree.Phrase → Type 0
+Now s words = FirstOf (BecomesIn s (split_is words)) (FirstOf (Gives Carried (codes "carries") s words) (Gives Worn (codes "wears") s words))
+
+abbrev pub moved_so : Both → tree.Phrase
+moved_so both = tree.Move both.0 both.1
 
 -- `move OBJECT to HOLDER`
-abbrev pub Moves : Scope → List Word → List Word → tree.Phrase → Type 0
-Moves s thing holder p = (o : tree.Object) × (h : tree.Object) × Means s thing o × Means s holder h × (p ≡ tree.Move o h)
+abbrev pub Moves : Scope → List Word → tree.Phrase → Type 0
+Moves s words p = (both : Both) × IsParted s (codes "to") words both × (p ≡ moved_so both)
 
 -- `increase .. by ..`, `decrease .. by ..`
 abbrev pub Adds : Operator → Scope → List Word → List Word → tree.Phrase → Type 0

@@ -1,8 +1,5 @@
 -- What phrases do that name no action, no rulebook and no text.
 use Rattle.std.specs.Prelude.{ℕ, Bool, true, false, List, Option, None, Some, codes}
-use Rattle.world_meaning.specs.declared.place.Rel.TheVariants.{Carried, Worn}
-use Rattle.i7_sentences.specs.declared.phrase_form.NowVerb.{NowVerb}
-use Rattle.i7_sentences.specs.declared.phrase_form.NowVerb.TheVariants as now
 use Rattle.i7_sentences.specs.declared.spoken.Spoken.{Spoken}
 use Rattle.i7_sentences.specs.declared.spoken.Spoken.TheVariants as spoken
 use Rattle.play_meaning.specs.Trees as tree
@@ -10,26 +7,20 @@ use Rattle.play_meaning.specs.declared.outcome.Flow.TheVariants.{Decides, NoDeci
 use Rattle.play_meaning.specs.declared.outcome.Outcome.TheVariants.{Failure, Success}
 use Rattle.play_meaning.specs.declared.tree.number.Operator.TheVariants.{Minus, Plus}
 use Rattle.i7_conditions.specs.Scopes.{Scope}
-use Rattle.i7_conditions.specs.Words.{Word}
-use Rattle.i7_phrases.specs.Changes.{Adds, Gives, Moves, Now}
+use Rattle.i7_phrases.specs.Changes.{Adds, Moves, Now}
 
 -- ---- changes of the world
 
 abbrev pub is_change : Spoken → Bool
-is_change (spoken.Now subject verb behind) = true
-is_change (spoken.Move thing holder) = true
+is_change (spoken.Now words) = true
+is_change (spoken.Move words) = true
 is_change (spoken.Increase value amount) = true
 is_change (spoken.Decrease value amount) = true
 is_change _ = false
 
-abbrev pub ByVerb : NowVerb → Scope → List Word → List Word → tree.Phrase → Type 0
-ByVerb now.Is = Now
-ByVerb now.Carries = Gives Carried
-ByVerb now.Wears = Gives Worn
-
 abbrev pub Changes : Scope → Spoken → tree.Phrase → Type 0
-Changes s (spoken.Now subject verb behind) = ByVerb verb s subject behind
-Changes s (spoken.Move thing holder) = Moves s thing holder
+Changes s (spoken.Now words) = Now s words
+Changes s (spoken.Move words) = Moves s words
 Changes s (spoken.Increase value amount) = Adds Plus s value amount
 Changes s (spoken.Decrease value amount) = Adds Minus s value amount
 Changes s _ = λ p. ⊥

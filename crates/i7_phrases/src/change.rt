@@ -1,5 +1,4 @@
-//! What phrases that change the world do (*Writing with Inform*, chapters 8 and 15): `now the box is open`, `move the ball to
-//! the box`, `increase the score by 2`.
+//! What phrases with an `is` do (*Writing with Inform*, chapters 8 and 15): `now the box is open`, `now the score is 2`.
 ghost use Rattle.std.specs.Prelude.{◌≡◌, ◌≤◌, length, IfOk};
 ghost use Rattle.i7_conditions.specs.Adjectives.{adjective_named};
 ghost use Rattle.i7_conditions.specs.Joining.{found_number};
@@ -9,7 +8,7 @@ ghost use Rattle.i7_conditions.specs.Relations.{relation_at};
 ghost use Rattle.i7_conditions.specs.Scopes.{scope_of};
 ghost use Rattle.i7_phrases.specs.CellForms.{cell_said, found_cell};
 ghost use Rattle.i7_phrases.specs.Cells.{set};
-ghost use Rattle.i7_phrases.specs.ChangeForms.{away_said, found_simple, from_away, from_put, from_set, from_value, held_so, made_so, now_said, put_said, set_said, so_said};
+ghost use Rattle.i7_phrases.specs.ChangeForms.{away_said, becomes_said, found_simple, from_away, from_put, from_set, from_value, held_so, made_so, put_said, set_said, so_said};
 ghost use Rattle.i7_phrases.specs.Changes.{flag_in, flag_of, is_nowhere, value_by};
 ghost use Rattle.play_meaning.specs.Trees as tree;
 
@@ -232,15 +231,15 @@ fn from_put(
 }
 
 /// What `now SUBJECT is ..` does, by the words in front of the `is` and those behind it.
-#[tactic(auto, unfolding(crate::specs::ChangeForms::now_said))]
-pub fn now_said(
+#[tactic(auto, unfolding(crate::specs::ChangeForms::becomes_said))]
+pub fn becomes_said(
     alloc: Global,
     scope: &Scope<'_>,
     subject: &[TextBytes],
     behind: &[TextBytes],
 ) -> Result<Found<Simple>, AllocError>
     requires few { length (scope_of scope.now).repeats ≤ 255 }
-    ensures { IfOk result (λ found. found_simple found ≡ now_said (scope_of scope.now) subject.now behind.now) }
+    ensures { IfOk result (λ found. found_simple found ≡ becomes_said (scope_of scope.now) subject.now behind.now) }
 {
     match so_said(alloc, scope, subject, behind)? {
         Found::Unread => Ok(from_put(alloc, scope, subject, behind)?),

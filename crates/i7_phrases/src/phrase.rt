@@ -3,7 +3,7 @@ ghost use Rattle.std.specs.Prelude.{◌≡◌, ◌≤◌, length, option_map, If
 ghost use Rattle.i7_conditions.specs.Scopes.{Scope as Names, scope_of};
 ghost use Rattle.i7_phrases.specs.ChangeForms.{found_simple};
 ghost use Rattle.i7_phrases.specs.Limits.{phrase_is_over};
-ghost use Rattle.i7_phrases.specs.PhraseForms.{by_verb, change_said};
+ghost use Rattle.i7_phrases.specs.PhraseForms.{change_said};
 ghost use Rattle.i7_phrases.specs.Phrases.{Changes, closing, ending_of, is_change};
 ghost use Rattle.i7_phrases.specs.Told.{IsToldOf};
 ghost use Rattle.i7_sentences.specs.declared.spoken.Spoken.{Spoken as Phrase};
@@ -12,32 +12,13 @@ ghost use Rattle.play_meaning.specs.Meant.{simple_meant};
 ghost use Rattle.play_meaning.specs.Trees as tree;
 
 use crate::adding::adds_said;
-use crate::change::now_said;
-use crate::moving::{gives_said, moves_said};
+use crate::moving::{moves_said, now_said};
 use i7_conditions::{Found, Scope};
-use i7_sentences::{NowVerb, Spoken};
+use i7_sentences::Spoken;
 use play_meaning::tree::{Operator, Simple};
 use play_meaning::{Flow, Outcome};
 use std::alloc::{AllocError, Global};
-use world_meaning::{Rel, TextBytes};
-
-/// What `now SUBJECT is ..` and its like do.
-fn by_verb(
-    alloc: Global,
-    scope: &Scope<'_>,
-    subject: &[TextBytes],
-    verb: NowVerb,
-    behind: &[TextBytes],
-) -> Result<Found<Simple>, AllocError>
-    requires few { length (scope_of scope.now).repeats ≤ 255 }
-    ensures { IfOk result (λ found. found_simple found ≡ by_verb verb (scope_of scope.now) subject.now behind.now) }
-{
-    match verb {
-        NowVerb::Is => now_said(alloc, scope, subject, behind),
-        NowVerb::Carries => gives_said(alloc, scope, Rel::Carried, subject, behind),
-        NowVerb::Wears => gives_said(alloc, scope, Rel::Worn, subject, behind),
-    }
-}
+use world_meaning::TextBytes;
 
 /// What a phrase does that changes the world, by its words.
 fn change_said(
@@ -49,14 +30,8 @@ fn change_said(
     ensures { IfOk result (λ found. option_map found_simple found ≡ change_said (scope_of scope.now) said.now) }
 {
     let found = match said {
-        Spoken::Now {
-            subject,
-            verb,
-            object,
-        } => by_verb(alloc, scope, subject.as_slice(), *verb, object.as_slice())?,
-        Spoken::Move { thing, holder } => {
-            moves_said(alloc, scope, thing.as_slice(), holder.as_slice())?
-        }
+        Spoken::Now(words) => now_said(alloc, scope, words.as_slice())?,
+        Spoken::Move(words) => moves_said(alloc, scope, words.as_slice())?,
         Spoken::Increase { value, amount } => adds_said(
             alloc,
             scope,

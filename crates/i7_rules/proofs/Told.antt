@@ -65,8 +65,8 @@ follow_told k words (Some book) found e h = subst (IsFoundAs (Follows k words) p
 -- ---- changes and endings
 
 pub changes_end_nothing : (said : Spoken) → is_change said ≡ true → ending_of said ≡ None
-changes_end_nothing (spoken.Now subject verb behind) is = refl
-changes_end_nothing (spoken.Move thing holder) is = refl
+changes_end_nothing (spoken.Now words) is = refl
+changes_end_nothing (spoken.Move words) is = refl
 changes_end_nothing (spoken.Increase value amount) is = refl
 changes_end_nothing (spoken.Decrease value amount) is = refl
 changes_end_nothing (spoken.Say text) is = refl
@@ -84,8 +84,8 @@ changes_end_nothing spoken.StopAction is = absurd cc
 changes_end_nothing (spoken.EndStory text) is = absurd cc
 
 pub no_other_changes : (s : Scope) (said : Spoken) (p : tree.Phrase) → is_change said ≡ false → Changes s said p → ⊥
-no_other_changes s (spoken.Now subject verb behind) p is changes = absurd cc
-no_other_changes s (spoken.Move thing holder) p is changes = absurd cc
+no_other_changes s (spoken.Now words) p is changes = absurd cc
+no_other_changes s (spoken.Move words) p is changes = absurd cc
 no_other_changes s (spoken.Increase value amount) p is changes = absurd cc
 no_other_changes s (spoken.Decrease value amount) p is changes = absurd cc
 no_other_changes s (spoken.Say text) p is changes = changes
@@ -115,8 +115,8 @@ ending_within spoken.MakeNoDecision p e = some_within (tree.Leave NoDecision) p 
 ending_within spoken.ContinueAction p e = some_within (tree.Leave NoDecision) p refl e
 ending_within spoken.StopAction p e = some_within (tree.Leave (Decides Failure)) p refl e
 ending_within (spoken.EndStory text) p e = some_within (tree.EndStory (closing text)) p refl e
-ending_within (spoken.Now subject verb behind) p e = none_within p e
-ending_within (spoken.Move thing holder) p e = none_within p e
+ending_within (spoken.Now words) p e = none_within p e
+ending_within (spoken.Move words) p e = none_within p e
 ending_within (spoken.Increase value amount) p e = none_within p e
 ending_within (spoken.Decrease value amount) p e = none_within p e
 ending_within (spoken.Say text) p e = none_within p e
@@ -162,8 +162,8 @@ pub other_does : (k : Known) (s : Scope) (said : Spoken) (found : Found tree.Phr
 other_does k s (spoken.Say text) found a b c h = absurd (a text refl)
 other_does k s (spoken.Try silently action) found a b c h = absurd (b silently action refl)
 other_does k s (spoken.Follow book) found a b c h = absurd (c book refl)
-other_does k s (spoken.Now subject verb behind) found a b c h = h
-other_does k s (spoken.Move thing holder) found a b c h = h
+other_does k s (spoken.Now words) found a b c h = h
+other_does k s (spoken.Move words) found a b c h = h
 other_does k s (spoken.Increase value amount) found a b c h = h
 other_does k s (spoken.Decrease value amount) found a b c h = h
 other_does k s (spoken.If words) found a b c h = h

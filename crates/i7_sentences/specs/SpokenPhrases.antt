@@ -9,7 +9,6 @@ use Rattle.i7_sentences.specs.Matching.{Found, lowest_fit}
 use Rattle.i7_sentences.specs.Names.{named_in, words_in}
 use Rattle.i7_sentences.specs.PhraseForms.{is_phrase_form, phrase_forms}
 use Rattle.i7_sentences.specs.TextPieces.{is_text_read, printed, text_pieces}
-use Rattle.i7_sentences.specs.declared.phrase_form.NowVerb.{NowVerb}
 use Rattle.i7_sentences.specs.declared.phrase_form.PhraseForm.{PhraseForm}
 use Rattle.i7_sentences.specs.declared.phrase_form.PhraseForm.TheVariants as form
 use Rattle.i7_sentences.specs.declared.spoken.Spoken.{Spoken}
@@ -35,13 +34,14 @@ abbrev pub say_of : List (List Token) → Option Spoken
 say_of ((token ∷ []) ∷ []) = saying_pieces (pieces_said token.kind)
 say_of _ = None
 
-abbrev pub now_of : NowVerb → List (List Token) → Option Spoken
-now_of verb (subject ∷ object ∷ []) = Some (spoken.Now (words_in subject) verb (words_in object))
-now_of verb _ = None
+-- names tell where a change is cut, so that all its words behind the first are kept
+abbrev pub now_of : List Token → Option Spoken
+now_of [] = None
+now_of (first ∷ behind) = Some (spoken.Now (words_in behind))
 
-abbrev pub move_of : List (List Token) → Option Spoken
-move_of (thing ∷ holder ∷ []) = Some (spoken.Move (words_in thing) (words_in holder))
-move_of _ = None
+abbrev pub move_of : List Token → Option Spoken
+move_of [] = None
+move_of (first ∷ behind) = Some (spoken.Move (words_in behind))
 
 abbrev pub increase_of : List (List Token) → Option Spoken
 increase_of (value ∷ amount ∷ []) = Some (spoken.Increase (words_in value) (words_in amount))
@@ -87,41 +87,41 @@ abbrev pub repeat_of : List (List Token) → Option Spoken
 repeat_of (name ∷ through ∷ []) = Some (spoken.Repeat (named_in name) (words_in through))
 repeat_of _ = None
 
--- what a phrase of this form says with these letters, if it is understood
-unfoldable pub spoken_of : PhraseForm → List (List Token) → Option Spoken
-spoken_of form.Say letters = say_of letters
-spoken_of (form.Now verb) letters = now_of verb letters
-spoken_of form.Move letters = move_of letters
-spoken_of form.Increase letters = increase_of letters
-spoken_of form.Decrease letters = decrease_of letters
-spoken_of form.Try letters = try_of false letters
-spoken_of form.TrySilently letters = try_of true letters
-spoken_of form.Follow letters = follow_of letters
-spoken_of form.RuleSucceeds letters = Some spoken.RuleSucceeds
-spoken_of form.RuleFails letters = Some spoken.RuleFails
-spoken_of form.MakeNoDecision letters = Some spoken.MakeNoDecision
-spoken_of form.ContinueAction letters = Some spoken.ContinueAction
-spoken_of form.StopAction letters = Some spoken.StopAction
-spoken_of form.EndStory letters = Some (spoken.EndStory None)
-spoken_of form.EndStoryFinally letters = Some (spoken.EndStory None)
-spoken_of form.EndStorySaying letters = end_story_of letters
-spoken_of form.If letters = if_of letters
-spoken_of form.OtherwiseIf letters = otherwise_if_of letters
-spoken_of form.Otherwise letters = Some spoken.Otherwise
-spoken_of form.Repeat letters = repeat_of letters
+-- what a phrase of these tokens and this form says with these letters, if it is understood
+unfoldable pub spoken_of : PhraseForm → List Token → List (List Token) → Option Spoken
+spoken_of form.Say tokens letters = say_of letters
+spoken_of form.Now tokens letters = now_of tokens
+spoken_of form.Move tokens letters = move_of tokens
+spoken_of form.Increase tokens letters = increase_of letters
+spoken_of form.Decrease tokens letters = decrease_of letters
+spoken_of form.Try tokens letters = try_of false letters
+spoken_of form.TrySilently tokens letters = try_of true letters
+spoken_of form.Follow tokens letters = follow_of letters
+spoken_of form.RuleSucceeds tokens letters = Some spoken.RuleSucceeds
+spoken_of form.RuleFails tokens letters = Some spoken.RuleFails
+spoken_of form.MakeNoDecision tokens letters = Some spoken.MakeNoDecision
+spoken_of form.ContinueAction tokens letters = Some spoken.ContinueAction
+spoken_of form.StopAction tokens letters = Some spoken.StopAction
+spoken_of form.EndStory tokens letters = Some (spoken.EndStory None)
+spoken_of form.EndStoryFinally tokens letters = Some (spoken.EndStory None)
+spoken_of form.EndStorySaying tokens letters = end_story_of letters
+spoken_of form.If tokens letters = if_of letters
+spoken_of form.OtherwiseIf tokens letters = otherwise_if_of letters
+spoken_of form.Otherwise tokens letters = Some spoken.Otherwise
+spoken_of form.Repeat tokens letters = repeat_of letters
 
 abbrev pub spoken_with : PhraseForm → Option Spoken → Option SpokenPhrase
 spoken_with form None = None
 spoken_with form (Some said) = Some (record { form = form; said = said })
 
-abbrev pub spoken_by : Option PhraseForm → List (List Token) → Option SpokenPhrase
-spoken_by None letters = None
-spoken_by (Some form) letters = spoken_with form (spoken_of form letters)
+abbrev pub spoken_by : Option PhraseForm → List Token → List (List Token) → Option SpokenPhrase
+spoken_by None tokens letters = None
+spoken_by (Some form) tokens letters = spoken_with form (spoken_of form tokens letters)
 
-abbrev pub spoken_found : Option Found → Option SpokenPhrase
-spoken_found None = None
-spoken_found (Some found) = spoken_by (is_phrase_form found.variant.form) found.letters
+abbrev pub spoken_found : List Token → Option Found → Option SpokenPhrase
+spoken_found tokens None = None
+spoken_found tokens (Some found) = spoken_by (is_phrase_form found.variant.form) tokens found.letters
 
 -- what a phrase says, by the first form that fits it, with the shortest letters; none where it isn't understood
 unfoldable pub spoken_in : List Token → Option SpokenPhrase
-spoken_in tokens = spoken_found (lowest_fit phrase_forms tokens)
+spoken_in tokens = spoken_found tokens (lowest_fit phrase_forms tokens)

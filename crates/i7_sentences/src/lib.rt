@@ -85,7 +85,7 @@ pub use low::lower_of;
 pub use name::{Name, NameArticle};
 pub use names::Names;
 pub use part::{Part, PartKind};
-pub use phrase_form::{NowVerb, PHRASE_FORMS, PhraseForm, PhraseShape, shape_in};
+pub use phrase_form::{PHRASE_FORMS, PhraseForm, PhraseShape, shape_in};
 pub use phrase_mark::PhraseMark;
 pub use plural::{front_of, plural_of, with_end};
 pub use reader::read;

@@ -14,20 +14,12 @@ use crate::{Class, Form, Keyword, Piece};
 use i7_lexer::PackedToken;
 use std::alloc::{AllocError, Global};
 
-/// How a `now` relates its first words to its last.
-#[derive(Clone, Copy, Debug, PartialEq, Eq)]
-pub enum NowVerb {
-    /// `is` or `are`
-    Is,
-    Carries,
-    Wears,
-}
-
 /// What a phrase is, by its shape.
 #[derive(Clone, Copy, Debug, PartialEq, Eq)]
 pub enum PhraseForm {
     Say,
-    Now(NowVerb),
+    /// With `is` or `are`, `carries` or `wears` behind it.
+    Now,
     Move,
     Increase,
     Decrease,
@@ -82,15 +74,15 @@ pub const PHRASE_FORMS: [&[(Form, &[Piece])]; 20] = [
     &[(Form::Phrase(PhraseForm::Say), &[Word(Keyword::Say), TEXT])],
     &[
         (
-            Form::Phrase(PhraseForm::Now(NowVerb::Is)),
+            Form::Phrase(PhraseForm::Now),
             &[NOW, WORDS, Word(Keyword::Is), WORDS],
         ),
         (
-            Form::Phrase(PhraseForm::Now(NowVerb::Carries)),
+            Form::Phrase(PhraseForm::Now),
             &[NOW, WORDS, Word(Keyword::Carries), WORDS],
         ),
         (
-            Form::Phrase(PhraseForm::Now(NowVerb::Wears)),
+            Form::Phrase(PhraseForm::Now),
             &[NOW, WORDS, Word(Keyword::Wears), WORDS],
         ),
     ],

@@ -1,5 +1,5 @@
 //! What a phrase of a rule's body says, its words not yet resolved.
-use crate::{NowVerb, TextPieces, WordList};
+use crate::{TextPieces, WordList};
 use world_meaning::TextBytes;
 
 /// What a phrase says. Words are as written; those of a rulebook and of a loop's name are without the free
@@ -7,30 +7,14 @@ use world_meaning::TextBytes;
 #[derive(Debug, Drop)]
 pub enum Spoken {
     Say(TextPieces),
-    /// `now the ball is in the box`, `now Bob carries the ball`
-    Now {
-        subject: WordList,
-        verb: NowVerb,
-        object: WordList,
-    },
-    /// `move the ball to the box`
-    Move {
-        thing: WordList,
-        holder: WordList,
-    },
-    Increase {
-        value: WordList,
-        amount: WordList,
-    },
-    Decrease {
-        value: WordList,
-        amount: WordList,
-    },
+    /// All that stands behind `now`: `now the ball is in the box`, `now Bob carries the ball`. Names tell where it is cut.
+    Now(WordList),
+    /// All that stands behind `move`: `move the ball to the box`.
+    Move(WordList),
+    Increase { value: WordList, amount: WordList },
+    Decrease { value: WordList, amount: WordList },
     /// `try taking the ball`, perhaps behind `silently`
-    Try {
-        is_silent: bool,
-        action: WordList,
-    },
+    Try { is_silent: bool, action: WordList },
     /// `follow the cleanup rules`
     Follow(WordList),
     RuleSucceeds,
@@ -49,8 +33,5 @@ pub enum Spoken {
     Otherwise,
     /// The phrases behind it that are one deeper are done with the name for each object that the words
     /// describe.
-    Repeat {
-        name: WordList,
-        through: WordList,
-    },
+    Repeat { name: WordList, through: WordList },
 }

@@ -10,7 +10,7 @@ use crate::reading::Reading;
 use crate::tagged::{Tagged, with_tags};
 use crate::text_reader::{printed, read_text};
 use crate::word_list::{named_in, words_in};
-use crate::{NowVerb, PhraseForm, Spoken, TextPieces, WordList};
+use crate::{PhraseForm, Spoken, TextPieces, WordList};
 use i7_lexer::{PackedToken, TokenKind};
 use std::alloc::{AllocError, Global};
 use world_meaning::TextBytes;
@@ -67,32 +67,21 @@ fn say_of(alloc: Global, letters: &[&[Tagged<'_>]]) -> Result<Option<Spoken>, Al
     }
 }
 
-fn now_of(
-    alloc: Global,
-    verb: NowVerb,
-    letters: &[&[Tagged<'_>]],
-) -> Result<Option<Spoken>, AllocError>
-    ensures { IfOk result (λ said. said ≡ now_of verb (map (λ letter. letter.now) letters.now)) }
+fn now_of(alloc: Global, tokens: &[Tagged<'_>]) -> Result<Option<Spoken>, AllocError>
+    ensures { IfOk result (λ said. said ≡ now_of tokens.now) }
 {
-    match letters {
-        [subject, object] => Ok(Some(Spoken::Now {
-            subject: words_in(alloc, subject)?,
-            verb,
-            object: words_in(alloc, object)?,
-        })),
-        _ => Ok(None),
+    match tokens {
+        [] => Ok(None),
+        [_, behind @ ..] => Ok(Some(Spoken::Now(words_in(alloc, behind)?))),
     }
 }
 
-fn move_of(alloc: Global, letters: &[&[Tagged<'_>]]) -> Result<Option<Spoken>, AllocError>
-    ensures { IfOk result (λ said. said ≡ move_of (map (λ letter. letter.now) letters.now)) }
+fn move_of(alloc: Global, tokens: &[Tagged<'_>]) -> Result<Option<Spoken>, AllocError>
+    ensures { IfOk result (λ said. said ≡ move_of tokens.now) }
 {
-    match letters {
-        [thing, holder] => Ok(Some(Spoken::Move {
-            thing: words_in(alloc, thing)?,
-            holder: words_in(alloc, holder)?,
-        })),
-        _ => Ok(None),
+    match tokens {
+        [] => Ok(None),
+        [_, behind @ ..] => Ok(Some(Spoken::Move(words_in(alloc, behind)?))),
     }
 }
 
@@ -214,19 +203,20 @@ fn repeat_of(alloc: Global, letters: &[&[Tagged<'_>]]) -> Result<Option<Spoken>,
     }
 }
 
-/// What a phrase of this form says with these letters, if it is understood.
+/// What a phrase of these tokens and this form says with these letters, if it is understood.
 #[tactic(auto, unfolding(crate::specs::SpokenPhrases::spoken_of))]
 fn spoken_of(
     alloc: Global,
     form: PhraseForm,
+    tokens: &[Tagged<'_>],
     letters: &[&[Tagged<'_>]],
 ) -> Result<Option<Spoken>, AllocError>
-    ensures { IfOk result (λ said. said ≡ spoken_of form (map (λ letter. letter.now) letters.now)) }
+    ensures { IfOk result (λ said. said ≡ spoken_of form tokens.now (map (λ letter. letter.now) letters.now)) }
 {
     match form {
         PhraseForm::Say => Ok(say_of(alloc, letters)?),
-        PhraseForm::Now(verb) => Ok(now_of(alloc, verb, letters)?),
-        PhraseForm::Move => Ok(move_of(alloc, letters)?),
+        PhraseForm::Now => Ok(now_of(alloc, tokens)?),
+        PhraseForm::Move => Ok(move_of(alloc, tokens)?),
         PhraseForm::Increase => Ok(increase_of(alloc, letters)?),
         PhraseForm::Decrease => Ok(decrease_of(alloc, letters)?),
         PhraseForm::Try => Ok(try_of(alloc, false, letters)?),
@@ -259,26 +249,33 @@ fn spoken_with(form: PhraseForm, said: Option<Spoken>) -> Option<SpokenPhrase>
 fn spoken_by(
     alloc: Global,
     form: Option<PhraseForm>,
+    tokens: &[Tagged<'_>],
     letters: &[&[Tagged<'_>]],
 ) -> Result<Option<SpokenPhrase>, AllocError>
-    ensures { IfOk result (λ said. said ≡ spoken_by form (map (λ letter. letter.now) letters.now)) }
+    ensures { IfOk result (λ said. said ≡ spoken_by form tokens.now (map (λ letter. letter.now) letters.now)) }
 {
     match form {
         None => Ok(None),
-        Some(form) => Ok(spoken_with(form, spoken_of(alloc, form, letters)?)),
+        Some(form) => Ok(spoken_with(form, spoken_of(alloc, form, tokens, letters)?)),
     }
 }
 
-/// What a reading says of a phrase.
+/// What a reading says of a phrase of these tokens.
 fn spoken_found(
     alloc: Global,
+    tokens: &[Tagged<'_>],
     reading: Option<Reading<'_, '_>>,
 ) -> Result<Option<SpokenPhrase>, AllocError>
-    ensures { IfOk result (λ said. said ≡ spoken_found (option_map found_in reading.entry)) }
+    ensures { IfOk result (λ said. said ≡ spoken_found tokens.now (option_map found_in reading.entry)) }
 {
     match reading {
         None => Ok(None),
-        Some(found) => Ok(spoken_by(alloc, is_phrase_form(found.form), found.letters.as_slice())?),
+        Some(found) => Ok(spoken_by(
+            alloc,
+            is_phrase_form(found.form),
+            tokens,
+            found.letters.as_slice(),
+        )?),
     }
 }
 
@@ -289,5 +286,5 @@ pub fn spoken_in(alloc: Global, tokens: &[PackedToken]) -> Result<Option<SpokenP
 {
     let words = with_tags(alloc, tokens)?;
     let reading = phrase_reading(alloc, words.as_slice())?;
-    Ok(spoken_found(alloc, reading)?)
+    Ok(spoken_found(alloc, words.as_slice(), reading)?)
 }

@@ -1,17 +1,8 @@
-//! What a phrase says: `move<the,ball><the,box>`.
+//! What a phrase says: `increase<the,score><2>`.
 use crate::texts::{add_pieces, add_words};
-use i7_sentences::{NowVerb, Spoken, WordList};
+use i7_sentences::{Spoken, WordList};
 use std::alloc::AllocError;
 use world_meaning::TextBytes;
-
-/// The verb behind `now`.
-fn verb_name(verb: NowVerb) -> &'static [u8] {
-    match verb {
-        NowVerb::Is => b"is",
-        NowVerb::Carries => b"carries",
-        NowVerb::Wears => b"wears",
-    }
-}
 
 /// Adds a name and words.
 fn add_one(out: &mut Vec<u8>, name: &[u8], words: &WordList) -> Result<(), AllocError> {
@@ -49,12 +40,8 @@ fn try_name(is_silent: bool) -> &'static [u8] {
 pub fn add_spoken(out: &mut Vec<u8>, said: &Spoken) -> Result<(), AllocError> {
     match said {
         Spoken::Say(pieces) => add_pieces(out, pieces.as_slice()),
-        Spoken::Now {
-            subject,
-            verb,
-            object,
-        } => add_two(out, verb_name(*verb), subject, object),
-        Spoken::Move { thing, holder } => add_two(out, b"move", thing, holder),
+        Spoken::Now(words) => add_one(out, b"now", words),
+        Spoken::Move(words) => add_one(out, b"move", words),
         Spoken::Increase { value, amount } => add_two(out, b"increase", value, amount),
         Spoken::Decrease { value, amount } => add_two(out, b"decrease", value, amount),
         Spoken::Try { is_silent, action } => add_one(out, try_name(*is_silent), action),

@@ -1,11 +1,11 @@
 use Rattle.std.proofs.Common.{◌≡◌, ◌+◌, ◌≤◌, length}
+use Rattle.i7_conditions.specs.Between.{place_from}
 use Rattle.i7_conditions.specs.Scopes.{scope_of}
-use Rattle.i7_conditions.specs.Verbs.{place_from}
-use Rattle.i7_conditions.proofs.doing.place_of.Given as goal
+use Rattle.i7_conditions.proofs.between.place_of.Given as goal
 
 abbrev pub invariant-loop-rest : goal.invariant-loop-rest
 invariant-loop-rest l = record {
-  same : place_from (scope_of l.scope) l.verb l.words l.count l.rest ≡ place_from (scope_of l.scope) l.verb l.words 0 l.words;
+  same : place_from (scope_of l.scope) l.word l.words l.count l.rest ≡ place_from (scope_of l.scope) l.word l.words 0 l.words;
   within : l.count + length l.rest ≤ length l.words;
 }
 
