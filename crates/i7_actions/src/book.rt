@@ -1,9 +1,8 @@
 //! What `follow` says (*Writing with Inform*, chapter 19): the rulebook of `follow the check taking rules`.
 ghost use Rattle.std.specs.Prelude.{◌≡◌, ℕ, ◌+◌, ◌*◌, ◌≤◌, List, length, option_map, IfOk};
-ghost use Rattle.std.specs.List.{position_from};
 ghost use Rattle.world_meaning.specs.Spelling.{is_spelled};
 ghost use Rattle.i7_actions.specs.BookForms.{book_said, built_in_said, own_said, stage_said};
-ghost use Rattle.i7_actions.specs.Books.{IsBookFound, IsFollowed, IsOwnFound, behind_carry, book_alone, book_of_word, first_own, is_action, is_every_turn, stage_at, stage_by};
+ghost use Rattle.i7_actions.specs.Books.{IsBookFound, IsFollowed, IsOwnFound, behind_carry, book_alone, book_of_word, is_action, is_every_turn, stage_at, stage_by};
 ghost use Rattle.i7_actions.specs.declared.action.Action.{Action as Row};
 ghost use Rattle.i7_conditions.specs.Words.{Word};
 

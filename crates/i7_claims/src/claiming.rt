@@ -2,7 +2,7 @@
 ghost use Rattle.std.specs.Prelude.{◌≡◌, ◌++◌, ◌∷◌, [], flat_map, map, IfOk, OnOk};
 ghost use Rattle.world_meaning.specs.Spelling.{lowered as small};
 ghost use Rattle.i7_claims.specs.Beings.{holders_in};
-ghost use Rattle.i7_claims.specs.Claims.{being_claims, claimed, claims_in, claims_of, claims_said, declares_said, either_or, grant_of, holding_claims, known_by, lies, named};
+ghost use Rattle.i7_claims.specs.Claims.{being_claims, claimed, claims_in, claims_of, claims_said, declares_said, either_or, grant_of, holding_claims, lies, named};
 ghost use Rattle.i7_claims.specs.NameScans.{IsShort, standing_at};
 ghost use Rattle.i7_claims.specs.Statements.{key_of};
 ghost use Rattle.i7_claims.specs.declared.claim.Fact.TheVariants.{CanBe, HasNumber, Rulebook};

@@ -1,6 +1,6 @@
 //! What sentences demand of objects' kinds, and where they place objects.
-ghost use Rattle.std.specs.Prelude.{◌≡◌, ◌++◌, ◌∷◌, [], Some, flat_map, map, IfOk, OnOk};
-ghost use Rattle.i7_claims.specs.Claims.{demands, demands_said, has, has_all, has_quality, holder_demands, kind_said, placed, placings_said, qualities_said, what_claims, worn_claims};
+ghost use Rattle.std.specs.Prelude.{◌≡◌, ◌++◌, ◌∷◌, [], Some, flat_map, map, OnOk};
+ghost use Rattle.i7_claims.specs.Claims.{demands, demands_said, has, has_all, holder_demands, kind_said, placed, placings_said, qualities_said, what_claims, worn_claims};
 
 use crate::claim::{Claim, Demand, Fact, Having, Placing, Quality, Value};
 use crate::claiming::key_text;

@@ -1,6 +1,6 @@
 //! The objects of a source by their names: 0 the player, 1 to 12 the directions, then the author's by
 //! first mention.
-ghost use Rattle.std.specs.Prelude.{◌≡◌, [], fold, map, IfOk, OnOk};
+ghost use Rattle.std.specs.Prelude.{◌≡◌, fold, map, IfOk, OnOk};
 ghost use Rattle.i7_claims.specs.Beings.{names_said};
 ghost use Rattle.i7_claims.specs.Statements.{built_in_keys, key_of, named_by, number_in, number_of, with_name, with_names_of};
 ghost use Rattle.i7_claims.specs.Views.{names_of};

@@ -1,8 +1,8 @@
 //! What clauses ask (*Writing with Inform*, 11.7 and 11.8): `not in darkness`, `the box is open`, `the player has the key`.
-ghost use Rattle.std.specs.Prelude.{◌≡◌, ◌≤◌, List, length, option_map, IfOk};
+ghost use Rattle.std.specs.Prelude.{◌≡◌, ◌≤◌, length, option_map, IfOk};
 ghost use Rattle.std.specs.List.{position_or_len};
 ghost use Rattle.i7_conditions.specs.Asking.{found_clause};
-ghost use Rattle.i7_conditions.specs.ClauseForms.{asked_in, clause_said, dark_said, from_not_dark, not_dark};
+ghost use Rattle.i7_conditions.specs.ClauseForms.{asked_in, clause_said, not_dark};
 ghost use Rattle.i7_conditions.specs.Clauses.{Asks, asks_over, behind_not, is_darkness, is_is, split_is};
 ghost use Rattle.i7_conditions.specs.Readings.{IsFoundAs};
 ghost use Rattle.i7_conditions.specs.Scopes.{scope_of};

@@ -1,7 +1,7 @@
 //! How numbers are compared: `greater than`, `less than`, `at least` and `at most`.
 ghost use Rattle.std.specs.Prelude.{◌≡◌, option_map};
 ghost use Rattle.play_meaning.specs.Meant.{basic_meant, number_meant};
-ghost use Rattle.i7_conditions.specs.Clauses.{compared, comparison_at, comparison_of, with_rest};
+ghost use Rattle.i7_conditions.specs.Clauses.{compared, comparison_at, comparison_of};
 
 use play_meaning::tree::{Basic, Number};
 use world_meaning::{TextBytes, is_spelled};

@@ -1,7 +1,7 @@
 //! Descriptions by their words (*Writing with Inform*, chapter 6): `closed containers`, `a lit thing carried by the player`
 //! without its article.
-ghost use Rattle.std.specs.Prelude.{◌≡◌, ◌≤◌, List, length, IfOk, option_map};
-ghost use Rattle.i7_conditions.specs.Descriptions.{description_said, front_and, described, found_described, held_in, said_behind, with_front, with_holder};
+ghost use Rattle.std.specs.Prelude.{◌≡◌, ◌≤◌, List, length, IfOk};
+ghost use Rattle.i7_conditions.specs.Descriptions.{description_said, described, found_described, held_in, with_front, with_holder};
 ghost use Rattle.i7_conditions.specs.Describing.{Describes, IsDescriptionFound};
 ghost use Rattle.i7_conditions.specs.Objects.{found_meant};
 ghost use Rattle.i7_conditions.specs.Scopes.{Scope as Names, scope_of};

@@ -1,7 +1,7 @@
 //! The words in front of a description's relation: adjectives, and then a kind. Of `closed dark room` they are `closed` and
 //! the kind `dark room`, if there is one, else `closed`, `dark` and `room`.
 ghost use Rattle.std.specs.Prelude.{◌≡◌, ◌+◌, ◌≤◌, [], ◌∷◌, ◌++◌, length, IfOk, OnOk};
-ghost use Rattle.i7_conditions.specs.Fronts.{adjective_at, can_go, column_of, ends_or, follow, front_said, goes, goes_by, looked, step_at, stops_with, IsToldBy, window_of};
+ghost use Rattle.i7_conditions.specs.Fronts.{adjective_at, can_go, column_of, follow, front_said, goes, looked, step_at, stops_with, IsToldBy, window_of};
 ghost use Rattle.i7_conditions.specs.Scopes.{scope_of};
 
 use crate::adjective::{adjective_named, kind_named};

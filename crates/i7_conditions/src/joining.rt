@@ -1,7 +1,7 @@
 //! Words parted into numbers that `plus`, `minus` and `times` join: a column of parts from the last word to the first, which
 //! is followed then. Where no name has an operator as a word, each operator ends a part.
-ghost use Rattle.std.specs.Prelude.{ℕ, List, ◌≡◌, ◌+◌, ◌≤◌, ◌++◌, ◌∷◌, [], length, take, Some, IfOk};
-ghost use Rattle.i7_conditions.specs.Joining.{Joint, added_to, and_part, chained, column_of, entry, first_part, follow, found_joints, found_number, is_end, is_read, is_term, joined, joint_of, joints_of, looked, number_from, number_said, onto, part_by, part_from};
+ghost use Rattle.std.specs.Prelude.{ℕ, List, ◌≡◌, ◌+◌, ◌≤◌, [], length, Some, IfOk};
+ghost use Rattle.i7_conditions.specs.Joining.{Joint, added_to, and_part, chained, column_of, entry, first_part, follow, found_joints, found_number, is_end, is_read, is_term, joined, joints_of, looked, number_from, number_said, onto, part_by, part_from};
 ghost use Rattle.i7_conditions.specs.Operators.{operator_of};
 ghost use Rattle.i7_conditions.specs.Scopes.{scope_of};
 ghost use Rattle.i7_conditions.specs.TermForms.{found_term, term_said};

@@ -1,8 +1,8 @@
 //! Names that are no objects, by their words: variables, number properties and kinds of value; and words cut at their first
 //! `of`.
-ghost use Rattle.std.specs.Prelude.{◌≡◌, ◌≤◌, length, option_map, vec_items, IfOk};
+ghost use Rattle.std.specs.Prelude.{◌≡◌, ◌≤◌, length, option_map, IfOk};
 ghost use Rattle.std.specs.List.{position_or_len};
-ghost use Rattle.i7_conditions.specs.Keys.{has_key, is_named, is_of, known, plain_key, property_in, property_named, split_of, value_kind_in, value_kind_named, variable_in, variable_named};
+ghost use Rattle.i7_conditions.specs.Keys.{is_named, is_of, known, plain_key, property_in, property_named, split_of, value_kind_in, value_kind_named, variable_in, variable_named};
 ghost use Rattle.i7_conditions.specs.Scopes.{scope_of};
 
 use crate::meaning::Meaning;

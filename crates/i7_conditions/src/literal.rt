@@ -1,5 +1,5 @@
 //! Literal numbers, from -2147483648 to 2147483647.
-ghost use Rattle.std.specs.Prelude.{◌≡◌, ◌<◌, ◌≤◌, ◌&&◌, not, ◌==◌, length, IfSome};
+ghost use Rattle.std.specs.Prelude.{◌≡◌, ◌<◌, ◌≤◌, ◌&&◌, ◌==◌, IfSome};
 ghost use Rattle.std.specs.List.{list_all};
 ghost use Rattle.std.specs.Char.{is_ascii_digit};
 ghost use Rattle.i7_conditions.specs.Literals.{are_digits, digits_of, is_negative, literal_in, magnitude, most_of, signed, up_to};

@@ -3,7 +3,7 @@
 ghost use Rattle.std.specs.Prelude.{◌≡◌, ◌<◌, ◌+◌, ◌++◌, ◌∷◌, [], None, Some, IfOk, OnOk, List, if◌then◌else◌, length, option_map};
 ghost use Rattle.play_meaning.specs.Meant.{body_meant, phrase_meant};
 ghost use Rattle.play_meaning.specs.Trees.{Body};
-ghost use Rattle.i7_conditions.specs.Levels.{alone, behind, level_of, levels_of, nested, no_level, placed, whole, with_inner, with_otherwise, with_phrase};
+ghost use Rattle.i7_conditions.specs.Levels.{alone, behind, level_of, levels_of, no_level, placed, whole, with_inner, with_otherwise, with_phrase};
 ghost use Rattle.i7_conditions.specs.Nesting.{IsBody, IsNested};
 ghost use Rattle.i7_conditions.specs.declared.line.Line.{Line as Lines};
 ghost use Rattle.i7_conditions.specs.declared.line.Step.{Step as Steps};

@@ -1,5 +1,4 @@
 //! Objects that words name without `from`: `the red ball`, `the noun`, the object of a repeat.
-ghost use Rattle.std.specs.Option.{option_or};
 ghost use Rattle.std.specs.Prelude.{◌≡◌, ◌≤◌, ◌+◌, length, IfOk, None};
 ghost use Rattle.i7_conditions.specs.Plain.{fixed, in_meaning, in_meanings, known_as, plainly_named, turning};
 ghost use Rattle.i7_conditions.specs.Scopes.{scope_of};

@@ -3,9 +3,8 @@
 ghost use Rattle.std.specs.Prelude.{◌≡◌, ◌≤◌, length, Some, IfOk};
 ghost use Rattle.play_meaning.specs.Meant.{adjective_meant, basic_meant, object_meant, quality_meant};
 ghost use Rattle.i7_conditions.specs.Descriptions.{found_described};
-ghost use Rattle.i7_conditions.specs.Objects.{found_meant};
-ghost use Rattle.i7_conditions.specs.Predicates.{HeldByOne as IsHeldByOne, One as IsOne, Same as IsSame, Held as IsHeld, found_predicate, from_held, from_one, from_same, held_by_one_said, held_said, predicate_meant, predicate_said, said_of};
-ghost use Rattle.i7_conditions.specs.Readings.{one, or_else};
+ghost use Rattle.i7_conditions.specs.Predicates.{HeldByOne as IsHeldByOne, One as IsOne, Same as IsSame, Held as IsHeld, found_predicate, from_held, from_one, from_same, predicate_meant, predicate_said, said_of};
+ghost use Rattle.i7_conditions.specs.Readings.{one};
 ghost use Rattle.i7_conditions.specs.Relations.{relation_at};
 ghost use Rattle.i7_conditions.specs.Scopes.{scope_of};
 

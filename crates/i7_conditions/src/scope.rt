@@ -1,5 +1,5 @@
 //! What the words of a phrase may name: a tale's names, and the objects of the repeats that are open there.
-ghost use Rattle.std.specs.Prelude.{◌≡◌, ◌≤◌, length};
+ghost use Rattle.std.specs.Prelude.{◌≡◌};
 ghost use Rattle.std.specs.List.{list_any};
 ghost use Rattle.i7_conditions.specs.Operators.{holds_operator};
 ghost use Rattle.i7_conditions.specs.Scopes.{scope_of};

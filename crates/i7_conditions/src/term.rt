@@ -7,7 +7,7 @@ ghost use Rattle.i7_conditions.specs.Keys.{split_of};
 ghost use Rattle.i7_conditions.specs.Objects.{found_meant};
 ghost use Rattle.i7_conditions.specs.Operators.{is_operator};
 ghost use Rattle.i7_conditions.specs.Scopes.{scope_of};
-ghost use Rattle.i7_conditions.specs.TermForms.{a_count, a_property, around_of, count_of, found_term, from_literal, from_property, from_variable, property_by, property_of, term_said, turn_count};
+ghost use Rattle.i7_conditions.specs.TermForms.{a_count, a_property, around_of, count_of, found_term, from_literal, from_property, from_variable, property_of, term_said, turn_count};
 ghost use Rattle.i7_conditions.specs.Terms.{can_stand, literal_said};
 
 use crate::description::description_said;

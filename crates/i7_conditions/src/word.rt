@@ -1,5 +1,5 @@
 //! Words as they are written: which are `from` or open a place beyond, and the name that words spell.
-ghost use Rattle.std.specs.Prelude.{◌≡◌, fold, IfOk, OnOk};
+ghost use Rattle.std.specs.Prelude.{◌≡◌, IfOk, OnOk};
 ghost use Rattle.i7_conditions.specs.Words.{begins_beyond, beyond_of, is_from, is_not, key_of, spelled, with_word, without_article};
 
 use crate::mark::Mark;

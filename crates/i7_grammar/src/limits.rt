@@ -4,7 +4,7 @@ ghost use Rattle.std.specs.List.{list_all, list_any};
 ghost use Rattle.command_grammar.specs.Lines.{token_meant};
 ghost use Rattle.i7_sentences.specs.Lowest.{lowest};
 ghost use Rattle.play_meaning.specs.Grammar.{is_slot};
-ghost use Rattle.i7_grammar.specs.Grammars.{all_suit, is_full, is_known, is_long, line_by, line_unless, lines_by, noun_number, suits, unknown_at, unsuited_at};
+ghost use Rattle.i7_grammar.specs.Grammars.{all_suit, is_full, is_long, line_by, line_unless, lines_by, noun_number, suits, unknown_at, unsuited_at};
 ghost use Rattle.i7_grammar.specs.Understood.{all_lent, understood_lent};
 
 use crate::target::Target;

@@ -2,8 +2,8 @@
 ghost use Rattle.std.specs.Prelude.{◌≡◌, ◌≤◌, ◌∷◌, ◌++◌, [], length, map, IfOk, OnOk};
 ghost use Rattle.std.specs.List.{flat_map};
 ghost use Rattle.command_grammar.specs.Lines.{line_meant};
-ghost use Rattle.i7_grammar.specs.GrammarScans.{is_over_by, named_from, over_by, over_from, with_words};
-ghost use Rattle.i7_grammar.specs.Grammars.{line_by, lines_by, lines_in, lines_told, synonym_by, synonyms_by, synonyms_in, synonyms_told};
+ghost use Rattle.i7_grammar.specs.GrammarScans.{is_over_by, named_from, over_by, over_from};
+ghost use Rattle.i7_grammar.specs.Grammars.{line_by, lines_in, lines_told, synonym_by, synonyms_in, synonyms_told};
 ghost use Rattle.i7_grammar.specs.TextTokens.{words_among};
 ghost use Rattle.i7_grammar.specs.Understood.{all_lent, understood_lent};
 

@@ -1,5 +1,5 @@
 //! The words of all objects, with those that sentences tell so far.
-ghost use Rattle.std.specs.Prelude.{◌≡◌, ◌+◌, ◌++◌, fold, length, map, option_map, slice_get, IfOk, OnOk};
+ghost use Rattle.std.specs.Prelude.{◌≡◌, ◌+◌, option_map, slice_get, IfOk, OnOk};
 ghost use Rattle.world_meaning.specs.Spelling.{lowered};
 ghost use Rattle.object_words.specs.Mentions.{mention};
 ghost use Rattle.i7_grammar.specs.GrammarScans.{are_many, has_many, named_from, set_words, with_text, with_texts, with_words};

@@ -1,7 +1,7 @@
 //! The kinds of a source, and which kinds there may not be.
-ghost use Rattle.std.specs.Prelude.{◌≡◌, ◌++◌, IfOk, OnOk, map};
+ghost use Rattle.std.specs.Prelude.{◌≡◌, IfOk, OnOk, map};
 ghost use Rattle.world_meaning.specs.Kinds.{built_in_parents, is_under};
-ghost use Rattle.i7_kinds.specs.KindClaims.{AreSmallKinds, IsSmallKind, is_cycle, is_kind_too_many, is_unknown, kind_cycle, kind_too_many, parents_of, unknown_kind, with_count, with_parent};
+ghost use Rattle.i7_kinds.specs.KindClaims.{AreSmallKinds, IsSmallKind, is_cycle, is_kind_too_many, is_unknown, kind_cycle, kind_too_many, parents_of, unknown_kind, with_parent};
 
 use i7_claims::{Claim, Fact, lower, number_in};
 use object_words::Strings;

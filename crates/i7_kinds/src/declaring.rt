@@ -1,7 +1,7 @@
 //! What a source declares besides objects.
 ghost use Rattle.std.specs.Prelude.{◌≡◌, ◌≤◌, ◌+◌, IfOk, length, map};
 ghost use Rattle.i7_kinds.specs.Grants.{built_in_bases};
-ghost use Rattle.i7_kinds.specs.KindClaims.{AreSmallKinds, declared_by, flags_by, givens_by, is_recurring, is_recurring_by, kind_names, numbers_by, parents_of, recurs_by, says_recurring, scenes_of, start_in, start_of, starts_of, value_kinds_by};
+ghost use Rattle.i7_kinds.specs.KindClaims.{AreSmallKinds, declared_by, flags_by, givens_by, is_recurring, is_recurring_by, kind_names, numbers_by, parents_of, says_recurring, scenes_of, start_of, starts_of, value_kinds_by};
 
 use crate::author_kinds::{kind_nos, parents_of};
 use crate::grants::{Given, flags_from, givens_of};

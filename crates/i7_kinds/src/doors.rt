@@ -1,6 +1,6 @@
 //! Doors: of which objects sentences demand one, and which sentences tell the rooms of a door again.
 ghost use Rattle.std.specs.Prelude.{◌≡◌, IfOk, OnOk};
-ghost use Rattle.i7_kinds.specs.Doors.{door_demanded, door_told, door_twice, doors_of, is_door_kind, is_told_again, with_told};
+ghost use Rattle.i7_kinds.specs.Doors.{door_demanded, door_told, door_twice, doors_of, is_door_kind, is_told_again};
 ghost use Rattle.i7_claims.specs.Sorts.{with_name};
 
 use crate::author_kinds::is_under;

@@ -1,5 +1,5 @@
 //! The names and articles of objects, by number: the player, the directions, and the author's.
-ghost use Rattle.std.specs.Prelude.{◌≡◌, ◌++◌, ◌∷◌, [], IfOk, OnOk, map};
+ghost use Rattle.std.specs.Prelude.{◌≡◌, ◌++◌, IfOk, OnOk, map};
 ghost use Rattle.world_meaning.specs.Directions.{all_directions};
 ghost use Rattle.i7_kinds.specs.Tales.{article_of, author_entry, direction_entry, entries_of, is_vowel, plain_article, player_entry};
 ghost use Rattle.i7_claims.specs.Views.{mention_of, mentions_of};

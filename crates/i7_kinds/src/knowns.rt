@@ -1,9 +1,9 @@
 //! The kinds of objects: the deepest kind that is demanded of each.
-ghost use Rattle.std.specs.Prelude.{◌≡◌, ◌&&◌, IfOk, length, not, slice_set};
+ghost use Rattle.std.specs.Prelude.{◌≡◌, ◌&&◌, IfOk, not, slice_set};
 ghost use Rattle.i7_claims.specs.Numbers.{has_name};
 ghost use Rattle.i7_claims.specs.declared.claim.Fact.TheVariants.{Demands};
-ghost use Rattle.world_meaning.specs.Kinds.{direction_kind, person_kind, room_kind};
-ghost use Rattle.i7_kinds.specs.Knowns.{deepen, deepened, first_knowns, is_of, is_off, is_parted, is_parted_at, kind_by, kind_of, known_as, known_at, knowns_of, off_path, thing_or_container, unknown, with_demand, with_holder, with_kind, with_known, with_room};
+ghost use Rattle.world_meaning.specs.Kinds.{room_kind};
+ghost use Rattle.i7_kinds.specs.Knowns.{deepen, deepened, first_knowns, is_of, is_off, is_parted, is_parted_at, kind_of, known_as, known_at, knowns_of, off_path, thing_or_container, with_demand, with_holder, with_kind, with_known, with_room};
 
 use crate::author_kinds::is_under;
 use crate::scope::Scope;

@@ -1,5 +1,5 @@
 //! Which places the kinds of objects allow, and where the player begins.
-ghost use Rattle.std.specs.Prelude.{◌≡◌, ◌&&◌, ◌==◌, drop, map, slice_get};
+ghost use Rattle.std.specs.Prelude.{◌≡◌, ◌&&◌, ◌==◌, map, slice_get};
 ghost use Rattle.std.specs.List.{list_any};
 ghost use Rattle.world_meaning.specs.Placing.{can_be_held, can_hold, keeps_player};
 ghost use Rattle.i7_kinds.specs.Knowns.{kinds_known};

@@ -3,7 +3,7 @@ ghost use Rattle.std.specs.Prelude.{◌≡◌, ◌≤◌, ◌+◌, IfOk, length,
 ghost use Rattle.i7_kinds.specs.Making.{made_of};
 ghost use Rattle.i7_kinds.specs.Tales.{choices_from, chosen};
 ghost use Rattle.i7_kinds.specs.ValueKinds.{AreFewValues, choice_or, is_unlisted, is_value_kind, unlisted, value_kind_of, value_kinds_from};
-ghost use Rattle.i7_kinds.specs.Values.{usual_of, value_at};
+ghost use Rattle.i7_kinds.specs.Values.{usual_of};
 
 use crate::grants::{Given, flag_of};
 use crate::objects::Makings;

@@ -1,17 +1,14 @@
 //! Patterns by their words (*Writing with Inform*, chapters 7 and 12): what stands behind `before` or `check`, without a
 //! `during` or a `when`; and the place behind `every turn in`.
-ghost use Rattle.std.specs.Prelude.{◌≡◌, ◌≤◌, List, length, option_map, IfOk};
-ghost use Rattle.i7_actions.specs.declared.action.Action.{Action as Row};
-ghost use Rattle.i7_conditions.specs.Scopes.{Scope as Names, scope_of};
-ghost use Rattle.i7_conditions.specs.Words.{Word};
+ghost use Rattle.std.specs.Prelude.{◌≡◌, ◌≤◌, length, option_map, IfOk};
+ghost use Rattle.i7_conditions.specs.Scopes.{scope_of};
 ghost use Rattle.i7_patterns.specs.AspectForms.{one_asked};
 ghost use Rattle.i7_patterns.specs.Aspects.{AsksOne};
 ghost use Rattle.i7_patterns.specs.Asked.{IsAsked, judged};
 ghost use Rattle.i7_patterns.specs.PatternForms.{asked_aspect, asked_pattern, pattern_asked};
-ghost use Rattle.play_meaning.specs.Patterns.{Pattern as Meant, aspect_meant, pattern_meant};
+ghost use Rattle.play_meaning.specs.Patterns.{aspect_meant, pattern_meant};
 ghost use Rattle.i7_patterns.specs.Patterns.{IsPattern, is_right, pattern_asks_value, pattern_is_over};
 ghost use Rattle.i7_patterns.specs.Places.{is_long, is_right_place};
-ghost use Rattle.play_meaning.specs.Rules.{Aspect as Meaning};
 
 use crate::action::action_asked;
 use crate::anything::anything_asked;

@@ -5,7 +5,7 @@ ghost use Rattle.i7_conditions.specs.Joining.{found_number};
 ghost use Rattle.i7_conditions.specs.Readings.{two};
 ghost use Rattle.i7_conditions.specs.Scopes.{scope_of};
 ghost use Rattle.i7_phrases.specs.CellForms.{found_cell};
-ghost use Rattle.i7_phrases.specs.Cells.{cell_meant, read, set};
+ghost use Rattle.i7_phrases.specs.Cells.{read, set};
 ghost use Rattle.i7_phrases.specs.ChangeForms.{added, adds_said, found_simple};
 ghost use Rattle.play_meaning.specs.Meant.{by_operator, number_meant, term_meant};
 

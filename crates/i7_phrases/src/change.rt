@@ -9,7 +9,7 @@ ghost use Rattle.i7_conditions.specs.Scopes.{scope_of};
 ghost use Rattle.i7_phrases.specs.CellForms.{cell_said, found_cell};
 ghost use Rattle.i7_phrases.specs.Cells.{set};
 ghost use Rattle.i7_phrases.specs.ChangeForms.{away_said, becomes_said, found_simple, from_away, from_put, from_set, from_value, held_so, made_so, put_said, set_said, so_said};
-ghost use Rattle.i7_phrases.specs.Changes.{flag_in, flag_of, is_nowhere, value_by};
+ghost use Rattle.i7_phrases.specs.Changes.{flag_of, is_nowhere, value_by};
 ghost use Rattle.play_meaning.specs.Trees as tree;
 
 use crate::cell::{Cell, cell_said, set};

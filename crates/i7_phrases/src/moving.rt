@@ -1,5 +1,5 @@
 //! Phrases that give and move things (*Writing with Inform*, chapter 8): `now Bob carries the ball`, `move the ball to the box`.
-ghost use Rattle.std.specs.Prelude.{◌≡◌, ◌≤◌, length, codes, IfOk};
+ghost use Rattle.std.specs.Prelude.{◌≡◌, ◌≤◌, length, IfOk};
 ghost use Rattle.i7_conditions.specs.Between.{found_both};
 ghost use Rattle.i7_conditions.specs.Clauses.{split_is};
 ghost use Rattle.i7_conditions.specs.Readings.{one};

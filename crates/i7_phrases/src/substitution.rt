@@ -7,8 +7,8 @@ ghost use Rattle.i7_conditions.specs.Objects.{found_meant};
 ghost use Rattle.i7_conditions.specs.Readings.{IsFoundAs, one};
 ghost use Rattle.i7_conditions.specs.Scopes.{scope_of};
 ghost use Rattle.i7_conditions.specs.Values.{kind_and_object};
-ghost use Rattle.i7_phrases.specs.SubstitutionForms.{description_by, figure_said, found_piece, from_description, from_listing, from_name, listing_said, name_said, substitution_said, value_name_by};
-ghost use Rattle.i7_phrases.specs.Substitutions.{DescriptionOf as IsDescriptionOf, Figure as IsFigure, Listing as IsListing, Name as IsName, Piece as Meant, Substitutes, ValueName as IsValueName, begins_with_article, behind_of, is_capital, listed_by, listing_in, naming_of, piece_is_over, telling_in, told_behind, told_by};
+ghost use Rattle.i7_phrases.specs.SubstitutionForms.{description_by, found_piece, from_description, from_listing, from_name, listing_said, name_said, substitution_said, value_name_by};
+ghost use Rattle.i7_phrases.specs.Substitutions.{DescriptionOf as IsDescriptionOf, Figure as IsFigure, Listing as IsListing, Name as IsName, Substitutes, ValueName as IsValueName, begins_with_article, behind_of, is_capital, listed_by, listing_in, naming_of, piece_is_over, telling_in, told_by};
 
 use i7_conditions::{Found, Scope, description_said, kind_and_object, number_said, object_said};
 use play_meaning::Naming;

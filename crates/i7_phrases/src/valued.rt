@@ -6,7 +6,7 @@ ghost use Rattle.i7_conditions.specs.Objects.{found_meant};
 ghost use Rattle.i7_conditions.specs.Readings.{one};
 ghost use Rattle.i7_conditions.specs.Scopes.{scope_of};
 ghost use Rattle.i7_conditions.specs.Values.{found_valuing};
-ghost use Rattle.i7_phrases.specs.ChangeForms.{found_simple, from_value, made_valued, value_given, valued_said};
+ghost use Rattle.i7_phrases.specs.ChangeForms.{found_simple, from_value, made_valued, valued_said};
 ghost use Rattle.i7_phrases.specs.Changes.{given, value_of};
 
 use i7_conditions::{Found, Scope, Valuing, object_said, quality_named, value_said};

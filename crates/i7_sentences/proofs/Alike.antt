@@ -1,12 +1,11 @@
 -- Words that are fewer or more than those of a name don't name it, nor are they its plural.
-use Rattle.std.proofs.Common.{◌≡◌, ◌≢◌, ℕ, suc, Bool, true, false, List, [], ◌∷◌, length, refl, ap}
-use Rattle.std.specs.Prelude.{◌&&◌, if◌then◌else◌}
-use Rattle.world_meaning.specs.Spelling.{is_spelled, lowered}
+use Rattle.std.proofs.Common.{◌≡◌, ◌≢◌, suc, Bool, true, false, List, [], ◌∷◌, length, refl, ap}
+use Rattle.std.specs.Prelude.{◌&&◌}
+use Rattle.world_meaning.specs.Spelling.{is_spelled}
 use Rattle.i7_lexer.specs.declared.token.Token.{Token}
 use Rattle.i7_sentences.specs.Names.{Words, words_in}
-use Rattle.i7_sentences.specs.Plurals.{plural_of}
 use Rattle.i7_sentences.specs.TextPieces.{are_spelled}
-use Rattle.i7_sentences.specs.ValueForms.{are_none, are_plural}
+use Rattle.i7_sentences.specs.ValueForms.{are_plural}
 use Rattle.i7_sentences.specs.Words.{word_of}
 
 and_false : (a b : Bool) → b ≡ false → (a && b) ≡ false

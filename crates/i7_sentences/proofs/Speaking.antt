@@ -21,7 +21,7 @@ use Rattle.i7_sentences.specs.Reserved.{has_reserved_among}
 use Rattle.i7_sentences.specs.RuleHeads.{is_rule_form}
 use Rattle.i7_sentences.specs.Sources.{IsSpeaking, Says, SaysInWords}
 use Rattle.i7_sentences.specs.Rules.{rule_heard}
-use Rattle.i7_sentences.specs.Understood.{IsUnderstoodBy, is_lost, is_unread}
+use Rattle.i7_sentences.specs.Understood.{IsUnderstoodBy, is_unread}
 use Rattle.i7_sentences.specs.ValueForms.{IsReadLater, IsReadWith, IsValueReading, ValueForm, value_forms}
 use Rattle.i7_sentences.specs.Words.{direction_named, is_text_kind, word_of}
 use Rattle.i7_sentences.specs.declared.action_form.ActionSort.TheVariants as sort
@@ -267,7 +267,6 @@ no_rule form.OwnRule asserts = absurd (false≢true asserts)
 no_rule _ asserts = refl
 
 speaks_so : (kinds : List Words) (tokens : List Token) (variant : Variant) (letters : List (List Token)) → IsUnderstoodBy kinds tokens variant letters → is_asserting variant.form ≡ true → AreDescribing tokens → IsSaid variant.form letters
-unfolding is_lost
 speaks_so kinds tokens variant letters (inl kept) asserts plain = speaks_with kinds tokens variant letters kept.0 asserts plain
 speaks_so kinds tokens variant letters (inr (inl taken)) asserts plain = speaks_later kinds tokens variant letters taken.1 asserts plain
 speaks_so kinds tokens variant letters (inr (inr left)) asserts plain =

@@ -1,17 +1,23 @@
 -- How a sentence is understood is what is found, and there is no other way.
-use Rattle.std.proofs.Common.{◌≡◌, inl, inr, ◌⊎◌, Bool, true, false, List, refl, ap, sym, ◌∙◌}
+use Rattle.std.proofs.Common.{◌≡◌, inl, inr, ℕ, Bool, true, false, List, refl, ap, sym, ◌∙◌, subst}
 use Rattle.std.specs.Prelude.{◌&&◌, Option, Some, None, if◌then◌else◌}
 use Rattle.i7_lexer.specs.declared.token.Token.{Token}
 use Rattle.i7_sentences.specs.Cuts.{line_in}
 use Rattle.i7_sentences.specs.Forms.{Variant}
 use Rattle.i7_sentences.specs.Matching.{Found, or_later}
 use Rattle.i7_sentences.specs.Names.{Words}
-use Rattle.i7_sentences.specs.Read.{heard_found, plain_found}
+use Rattle.i7_sentences.specs.Read.{IsHeardAs, IsHeardOr, plain_found}
 use Rattle.i7_sentences.specs.RuleHeads.{is_rule_form}
 use Rattle.i7_sentences.specs.Rules.{rule_heard}
-use Rattle.i7_sentences.specs.Understood.{IsUnderstoodBy, is_lost, is_passed_on, is_unread, passed_on, understood_by, understood_from}
+use Rattle.i7_sentences.specs.Stretches.{bad_literal_in, whole}
+use Rattle.i7_sentences.specs.Understood.{IsUnderstoodBy, is_passed_on, is_unread, passed_on, understood_by, understood_from}
 use Rattle.i7_sentences.specs.ValueFits.{read_later, read_with}
 use Rattle.i7_sentences.specs.ValueForms.{IsReadWith, IsUnreadWith}
+use Rattle.i7_sentences.specs.declared.heard.Heard.{Heard}
+use Rattle.i7_sentences.specs.declared.heard.Heard.TheVariants as heard
+use Rattle.i7_sentences.specs.declared.heard.HeardPart.{HeardPart}
+use Rattle.i7_sentences.specs.declared.sentence.Assertion.{Assertion}
+use Rattle.i7_sentences.proofs.Lowest.{lower_none}
 use Rattle.i7_sentences.proofs.ReadingWith.{ReadLater, ReadWith, found_later, found_with, later_is_found, later_not_found, not_both, read_same}
 
 abbrev as_found : Variant → List (List Token) → Found
@@ -97,16 +103,47 @@ unread_by : (kinds : List Words) (tokens : List Token) (found : Found) (is_rule 
 unread_by kinds tokens found true is = refl
 unread_by kinds tokens found false is = refl
 
-lost_so : (kinds : List Words) (tokens : List Token) (found : Found) → is_lost found.variant.form (heard_found kinds tokens (Some found)) ≡ is_passed_on tokens found.variant
-unfolding is_lost
-lost_so kinds tokens found = unread_by kinds tokens found (is_rule_form found.variant.form) refl
+passed_so : (kinds : List Words) (tokens : List Token) (found : Found) (part : HeardPart) → IsHeardAs kinds tokens (Some found) part → is_passed_on tokens found.variant ≡ (is_rule_form found.variant.form && is_unread part.heard)
+unfolding IsHeardAs
+passed_so kinds tokens found part told =
+    sym (unread_by kinds tokens found (is_rule_form found.variant.form) refl) ∙ ap (λ (h : Heard). is_rule_form found.variant.form && is_unread h) (sym told.0)
 
-pub stays : (kinds : List Words) (tokens : List Token) (found : Found) → is_lost found.variant.form (heard_found kinds tokens (Some found)) ≡ false → passed_on kinds tokens found ≡ Some found
+stays : (kinds : List Words) (tokens : List Token) (found : Found) (part : HeardPart) → IsHeardAs kinds tokens (Some found) part → (is_rule_form found.variant.form && is_unread part.heard) ≡ false → IsHeardAs kinds tokens (passed_on kinds tokens found) part
 unfolding passed_on
-stays kinds tokens found kept = rw (sym (lost_so kinds tokens found) ∙ kept) refl
+stays kinds tokens found part told is = rw (passed_so kinds tokens found part told ∙ is) told
 
-pub goes_on : (kinds : List Words) (tokens : List Token) (found : Found) → is_lost found.variant.form (heard_found kinds tokens (Some found)) ≡ true → passed_on kinds tokens found ≡ or_later (read_later kinds tokens) (Some found)
+neither : (is_rule : Bool) → (is_rule && false) ≡ false
+neither true = refl
+neither false = refl
+
+pub said_stays : (kinds : List Words) (tokens : List Token) (found : Found) (said : Assertion) (literal : Option ℕ) → IsHeardAs kinds tokens (Some found) (record { heard = heard.Says said; bad_literal = literal })
+    → IsHeardAs kinds tokens (passed_on kinds tokens found) (record { heard = heard.Says said; bad_literal = literal })
+said_stays kinds tokens found said literal told = stays kinds tokens found (record { heard = heard.Says said; bad_literal = literal }) told (neither (is_rule_form found.variant.form))
+
+pub reserved_stays : (kinds : List Words) (tokens : List Token) (found : Found) (line : ℕ) (literal : Option ℕ) → IsHeardAs kinds tokens (Some found) (record { heard = heard.Reserved line; bad_literal = literal })
+    → IsHeardAs kinds tokens (passed_on kinds tokens found) (record { heard = heard.Reserved line; bad_literal = literal })
+reserved_stays kinds tokens found line literal told = stays kinds tokens found (record { heard = heard.Reserved line; bad_literal = literal }) told (neither (is_rule_form found.variant.form))
+
+pub other_stays : (kinds : List Words) (tokens : List Token) (found : Found) (part : HeardPart) → IsHeardAs kinds tokens (Some found) part → is_rule_form found.variant.form ≡ false → IsHeardAs kinds tokens (passed_on kinds tokens found) part
+other_stays kinds tokens found part told is = stays kinds tokens found part told (rw is refl)
+
+or_else : (kinds : List Words) (tokens : List Token) (found : Found) (later : Option Found) (first part : HeardPart) → IsHeardAs kinds tokens (Some found) first → IsHeardOr kinds tokens later first part → IsHeardAs kinds tokens (or_later later (Some found)) part
+unfolding IsHeardOr
+or_else kinds tokens found None first part told same = subst (IsHeardAs kinds tokens (Some found)) (sym same) told
+or_else kinds tokens found (Some later) first part told read = read
+
+pub lost_goes_on : (kinds : List Words) (tokens : List Token) (found : Found) (line : ℕ) (literal : Option ℕ) (part : HeardPart) → IsHeardAs kinds tokens (Some found) (record { heard = heard.Unread line; bad_literal = literal }) → is_rule_form found.variant.form ≡ true
+    → IsHeardOr kinds tokens (read_later kinds tokens) (record { heard = heard.Unread line; bad_literal = literal }) part → IsHeardAs kinds tokens (passed_on kinds tokens found) part
 unfolding passed_on
-goes_on kinds tokens found lost = rw (sym (lost_so kinds tokens found) ∙ lost) refl
+lost_goes_on kinds tokens found line literal part told is later =
+    let unread : HeardPart = record { heard = heard.Unread line; bad_literal = literal } in
+    let passed : is_passed_on tokens found.variant ≡ true = passed_so kinds tokens found unread told ∙ rw is refl in
+    rw passed (or_else kinds tokens found (read_later kinds tokens) unread part told later)
 
-pub ruleset passing = (stays, goes_on)
+pub ruleset passing = (said_stays, reserved_stays, other_stays, lost_goes_on)
+
+pub unread_so : (kinds : List Words) (tokens : List Token) (part : HeardPart) → part.heard ≡ heard.Unread (line_in tokens) → part.bad_literal ≡ bad_literal_in (whole tokens) → IsHeardAs kinds tokens None part
+unfolding IsHeardAs
+unread_so kinds tokens part unread literals = (unread, literals ∙ sym (lower_none (bad_literal_in (whole tokens))))
+
+pub ruleset unheard = (unread_so)

@@ -1,5 +1,5 @@
 -- Reading a source's parts from the first to the last.
-use Rattle.std.specs.Prelude.{ℕ, Bool, true, false, List, Option, Some, None, Result, Ok, Err, if◌then◌else◌}
+use Rattle.std.specs.Prelude.{◌≡◌, ℕ, Bool, true, false, List, Option, Some, None, Result, Ok, Err, if◌then◌else◌}
 use Rattle.std.specs.List.{filter_map}
 use Rattle.world_meaning.specs.declared.fault.Fault.{Fault}
 use Rattle.world_meaning.specs.declared.fault.FaultCode.{FaultCode}
@@ -15,9 +15,10 @@ use Rattle.i7_sentences.specs.Names.{Words}
 use Rattle.i7_sentences.specs.Reserved.{has_reserved_among}
 use Rattle.i7_sentences.specs.RuleHeads.{is_rule_form}
 use Rattle.i7_sentences.specs.Rules.{rule_heard}
-use Rattle.i7_sentences.specs.Stretches.{bad_literal_of}
+use Rattle.i7_sentences.specs.Stretches.{bad_literal_in, bad_literal_of, read_stretches}
 use Rattle.i7_sentences.specs.Understood.{understood_by}
 use Rattle.i7_sentences.specs.declared.heard.Heard.{Heard}
+use Rattle.i7_sentences.specs.declared.heard.HeardPart.{HeardPart}
 use Rattle.i7_sentences.specs.declared.heard.Heard.TheVariants.{Says, Unread, Reserved}
 use Rattle.i7_sentences.specs.declared.part.PartKind.{PartKind}
 use Rattle.i7_sentences.specs.declared.part.PartKind.TheVariants.{Title, Heading, Sentence as Said}
@@ -47,6 +48,15 @@ heard_by kinds tokens variant letters =
 abbrev pub heard_found : List Words → List Token → Option Found → Heard
 heard_found kinds tokens None = Unread (line_in tokens)
 heard_found kinds tokens (Some found) = heard_by kinds tokens found.variant found.letters
+
+-- what is answered of a sentence by how it is understood: what it says, and the lowest line of a literal out of range in it
+unfoldable pub IsHeardAs : List Words → List Token → Option Found → HeardPart → Type 0
+IsHeardAs kinds tokens found part = (part.heard ≡ heard_found kinds tokens found) × (part.bad_literal ≡ lowest bad_literal_in (read_stretches tokens found))
+
+-- the same of what is found, if something is, and else this answer
+unfoldable pub IsHeardOr : List Words → List Token → Option Found → HeardPart → HeardPart → Type 0
+IsHeardOr kinds tokens None first part = part ≡ first
+IsHeardOr kinds tokens (Some found) first part = IsHeardAs kinds tokens (Some found) part
 
 -- a title or a heading asserts nothing
 abbrev pub heard_of : List Words → PartKind → List Token → Heard

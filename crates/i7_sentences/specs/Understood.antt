@@ -8,7 +8,6 @@ use Rattle.i7_sentences.specs.RuleHeads.{is_rule_form}
 use Rattle.i7_sentences.specs.Rules.{rule_heard}
 use Rattle.i7_sentences.specs.ValueFits.{read_later, read_with}
 use Rattle.i7_sentences.specs.ValueForms.{IsReadLater, IsReadWith, IsUnreadLater}
-use Rattle.i7_sentences.specs.declared.form.Form.{Form}
 use Rattle.i7_sentences.specs.declared.heard.Heard.{Heard}
 use Rattle.i7_sentences.specs.declared.heard.Heard.TheVariants.{Says, Unread, Reserved}
 
@@ -17,12 +16,9 @@ is_unread (Says said) = false
 is_unread (Unread line) = true
 is_unread (Reserved line) = false
 
--- a rule's form reads words, and they aren't understood
-unfoldable pub is_lost : Form → Heard → Bool
-is_lost form heard = is_rule_form form && is_unread heard
-
+-- a rule's form reads the words, and as a rule they aren't understood
 abbrev pub is_passed_on : List Token → Variant → Bool
-is_passed_on tokens rule = is_lost rule.form (rule_heard tokens)
+is_passed_on tokens rule = is_rule_form rule.form && is_unread (rule_heard tokens)
 
 -- so the forms behind those of rules are looked at, and where none of them fits it is a rule that isn't understood
 unfoldable pub passed_on : List Words → List Token → Found → Option Found

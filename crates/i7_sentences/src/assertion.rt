@@ -1,6 +1,6 @@
 //! What a form says with its letters.
 ghost use Rattle.std.specs.Prelude.{◌≡◌, map, IfOk};
-ghost use Rattle.i7_sentences.specs.Assertions.{are, assertion_of, being, described, described_object, description, description_of, door_between, door_to, held, holder_by, holds, number_of, side_of, variable_is, way_assertion, way_from, way_to, what_held};
+ghost use Rattle.i7_sentences.specs.Assertions.{are, assertion_of, being, described_object, description, description_of, door_between, door_to, held, holder_by, holds, number_of, side_of, variable_is, way_assertion, way_from, way_to, what_held};
 
 use crate::action_declaration::{action, action_on_two};
 use crate::declaration::{

@@ -3,7 +3,7 @@ ghost use Rattle.std.specs.Prelude.{◌≡◌, IfOk, OnOk};
 ghost use Rattle.i7_sentences.specs.Bodies.{phrase_of, phrases_of};
 ghost use Rattle.i7_sentences.specs.Dues.{is_awaiting, lacks_deeper, line_due, wants_phrase};
 ghost use Rattle.i7_sentences.specs.PhraseMarks.{is_colon_mark, is_comma_mark, is_no_mark, is_pause};
-ghost use Rattle.i7_sentences.specs.BodyOrder.{body_fault, fault_at, fault_of, has_instead, has_reserved_name, is_allowed, is_instead, is_simple, opens_block, opens_head, place_behind, place_of, reserved_line, shape_of, stands_as, without_instead};
+ghost use Rattle.i7_sentences.specs.BodyOrder.{body_fault, fault_at, fault_of, has_instead, has_reserved_name, is_allowed, is_instead, is_simple, opens_head, place_behind, place_of, reserved_line, shape_of, stands_as, without_instead};
 
 use crate::body::{PhraseLine, is_spelled_so};
 use crate::body_place::{Block, Place, advance, is_block_if, is_simple, start};

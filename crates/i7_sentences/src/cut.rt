@@ -1,5 +1,5 @@
 //! Cutting tokens into paragraphs, and these into headings and sentences.
-ghost use Rattle.std.specs.Prelude.{◌≡◌, ◌<◌, ◌≤◌, false, fold, length, not, IfOk, OnOk};
+ghost use Rattle.std.specs.Prelude.{◌≡◌, ◌<◌, ◌≤◌, false, fold, length, IfOk, OnOk};
 ghost use Rattle.std.specs.List.{list_all};
 ghost use Rattle.i7_sentences.specs.Cuts.{cut, ends_sentence_kind, has_final_end, is_capitalised, is_colon, is_final, is_full_stop, is_heading, is_mark_kind, is_same_paragraph, is_same_sentence};
 ghost use Rattle.i7_sentences.specs.Cuts.{is_stop_alone, is_title, is_unindented, is_within_line, kind_of, may_begin_kind, opens_heading, opens_nothing, parts_of, with_paragraph, with_sentence};

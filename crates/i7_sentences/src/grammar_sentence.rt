@@ -1,5 +1,5 @@
 //! Sentences that tell what commands and words mean (*Writing with Inform*, 17.2, 17.8): `Understand "orb" or "globe" as the ball.`
-ghost use Rattle.std.specs.Prelude.{◌≡◌, ◌∷◌, ◌++◌, map, IfOk, OnOk};
+ghost use Rattle.std.specs.Prelude.{◌≡◌, ◌++◌, map, IfOk, OnOk};
 ghost use Rattle.std.specs.List.{list_all};
 ghost use Rattle.i7_sentences.specs.TextPieces.{parts_of};
 ghost use Rattle.i7_sentences.specs.Understandings.{are_choices, is_grammar_text, is_slot, is_slot_read, text_of, texts_in, understands, understands_so};

@@ -1,9 +1,9 @@
 //! From where pieces can fit words: for each piece, from the last to the first, a column that tells of
 //! each count of words left whether the pieces from that one on can fit them.
-ghost use Rattle.std.specs.Prelude.{◌≡◌, true, false, ◌&&◌, ◌++◌, [], length, IfNone, IfOk, IfSome, OnSome};
+ghost use Rattle.std.specs.Prelude.{◌≡◌, true, false, ◌&&◌, ◌++◌, [], IfNone, IfOk, IfSome, OnSome};
 ghost use Rattle.std.specs.List.{list_any};
 ghost use Rattle.i7_sentences.specs.Keywords.{is_sign};
-ghost use Rattle.i7_sentences.specs.Matching.{ahead_at, ahead_of, ahead_of_alone, ahead_of_more, ahead_of_names, ahead_of_none, ahead_of_run, ahead_of_side, columns_of, end_column, first_column, is_never, letter_column, looked, piece_column, reaches, then_ahead, word_column};
+ghost use Rattle.i7_sentences.specs.Matching.{ahead_at, ahead_of_alone, ahead_of_more, ahead_of_names, ahead_of_none, ahead_of_run, ahead_of_side, columns_of, end_column, first_column, is_never, letter_column, looked, piece_column, reaches, then_ahead, word_column};
 ghost use Rattle.i7_sentences.specs.WordColumns.{is_words, words_column};
 
 use crate::class::{State, names_step, side_step};

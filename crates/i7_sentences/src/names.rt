@@ -1,5 +1,5 @@
 //! Lists of names, parted by `,` or `and`.
-ghost use Rattle.std.specs.Prelude.{◌≡◌, true, ◌+◌, ◌<◌, ◌≤◌, count_by, length, map, IfOk, OnOk};
+ghost use Rattle.std.specs.Prelude.{◌≡◌, true, ◌+◌, ◌<◌, ◌≤◌, count_by, length, map, IfOk};
 ghost use Rattle.i7_sentences.specs.Classes.{is_joint};
 ghost use Rattle.i7_sentences.specs.Names.{name_len, name_of, names_from, unjoined};
 

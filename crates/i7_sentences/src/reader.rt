@@ -7,11 +7,13 @@ ghost use Rattle.i7_sentences.specs.Cuts.{parts_of};
 ghost use Rattle.i7_sentences.specs.KindsOfValue.{kinds_of_value};
 ghost use Rattle.i7_sentences.specs.Lowest.{lowest};
 ghost use Rattle.i7_sentences.specs.Pieces.{piece_of, pieces_of};
-ghost use Rattle.i7_sentences.specs.Read.{heard_found, heard_in, named_heard, plain_heard, read_of, reserved_in, sentence_in, unread_in, plain_found};
+ghost use Rattle.i7_sentences.specs.Read.{IsHeardAs, IsHeardOr, heard_in, named_heard, plain_heard, read_of, reserved_in, sentence_in, unread_in, plain_found};
 ghost use Rattle.i7_sentences.specs.Reserved.{has_reserved_among};
 ghost use Rattle.i7_sentences.specs.Sources.{HasSentences, IsRefused};
-ghost use Rattle.i7_sentences.specs.Stretches.{bad_literal_in, bad_literal_of, read_stretches};
-ghost use Rattle.i7_sentences.specs.Understood.{is_lost, passed_on, understood_by};
+ghost use Rattle.i7_sentences.specs.Stretches.{bad_literal_of};
+ghost use Rattle.i7_sentences.specs.Understood.{passed_on, understood_by};
+ghost use Rattle.i7_sentences.specs.ValueFits.{read_later};
+ghost use Rattle.i7_sentences.specs.declared.heard.Heard.TheVariants.{Unread};
 ghost use Rattle.i7_sentences.specs.Found.{found_in};
 
 use crate::assertion::assertion_of;
@@ -28,7 +30,7 @@ use crate::rule_reader::rule_part;
 use crate::stretch::bad_literal_in;
 use crate::tagged::{Tagged, with_tags};
 use crate::value_reading::{later_reading, reading_with};
-use crate::{Assertion, Form, Part, PartKind, Sentence, WordList};
+use crate::{Assertion, Part, PartKind, Sentence, WordList};
 use i7_lexer::{Lexed, PackedToken};
 use std::alloc::{AllocError, Global};
 use world_meaning::{Fault, FaultCode};
@@ -80,7 +82,7 @@ fn plain_heard(
 }
 
 /// What a sentence says by this reading.
-#[tactic(auto, using(crate::proofs::Lowest::lower_steps))]
+#[tactic(auto, unfolding(crate::specs::Read::IsHeardAs), using(crate::proofs::Lowest::lower_steps))]
 fn part_by(
     alloc: Global,
     kinds: &[WordList],
@@ -89,8 +91,7 @@ fn part_by(
     reading: &Reading<'_, '_>,
 ) -> Result<HeardPart, AllocError>
     requires { words.now ≡ tokens.now }
-    ensures heard { IfOk result (λ part. part.heard ≡ heard_found kinds.now tokens.now (Some (found_in reading.now))) }
-    ensures literals { IfOk result (λ part. part.bad_literal ≡ lowest bad_literal_in (read_stretches tokens.now (Some (found_in reading.now)))) }
+    ensures { IfOk result (λ part. IsHeardAs kinds.now tokens.now (Some (found_in reading.now)) part) }
 {
     if is_rule_form(reading.form) {
         return Ok(rule_part(alloc, tokens, words)?);
@@ -102,19 +103,31 @@ fn part_by(
     })
 }
 
-/// Whether what a form of rules reads isn't understood, so that it may be a sentence of a later form.
-#[tactic(auto, unfolding(crate::specs::Understood::is_lost))]
-fn is_lost(form: Form, heard: &Heard) -> bool
-    ensures { result ≡ is_lost form heard.now }
+/// What a sentence says by a later form, or that it isn't understood at this line.
+#[tactic(auto, unfolding(crate::specs::Read::IsHeardOr))]
+fn later_part(
+    alloc: Global,
+    kinds: &[WordList],
+    tokens: &[PackedToken],
+    words: &[Tagged<'_>],
+    line: u32,
+    bad_literal: Option<u32>,
+    columns: &mut ColumnStack,
+) -> Result<HeardPart, AllocError>
+    requires { words.now ≡ tokens.now }
+    ensures { IfOk result (λ part. IsHeardOr kinds.now tokens.now (read_later kinds.now tokens.now) (record { heard = Unread line; bad_literal = bad_literal }) part) }
 {
-    match heard {
-        Heard::Unread(_) => is_rule_form(form),
-        Heard::Says(_) | Heard::Reserved(_) => false,
+    match later_reading(alloc, kinds, words, columns)? {
+        None => Ok(HeardPart {
+            heard: Heard::Unread(line),
+            bad_literal,
+        }),
+        Some(later) => Ok(part_by(alloc, kinds, tokens, words, &later)?),
     }
 }
 
 /// What a sentence says that this form reads, or else a later form, if it isn't understood as the rule that it would be.
-#[tactic(none)]
+#[tactic(auto, using(crate::proofs::Understood::passing))]
 fn understood_part(
     alloc: Global,
     kinds: &[WordList],
@@ -124,29 +137,39 @@ fn understood_part(
     columns: &mut ColumnStack,
 ) -> Result<HeardPart, AllocError>
     requires { words.now ≡ tokens.now }
-    ensures heard { IfOk result (λ part. part.heard ≡ heard_found kinds.now tokens.now (passed_on kinds.now tokens.now (found_in reading.now))) }
-    ensures literals { IfOk result (λ part. part.bad_literal ≡ lowest bad_literal_in (read_stretches tokens.now (passed_on kinds.now tokens.now (found_in reading.now)))) }
+    ensures { IfOk result (λ part. IsHeardAs kinds.now tokens.now (passed_on kinds.now tokens.now (found_in reading.now)) part) }
 {
-    let part = part_by(alloc, kinds, tokens, words, reading)?;
-    if !is_lost(reading.form, &part.heard) {
-        return Ok(part);
-    }
-    match later_reading(alloc, kinds, words, columns)? {
-        None => Ok(part),
-        Some(later) => Ok(part_by(alloc, kinds, tokens, words, &later)?),
+    let HeardPart { heard, bad_literal } = part_by(alloc, kinds, tokens, words, reading)?;
+    match heard {
+        Heard::Says(said) => Ok(HeardPart {
+            heard: Heard::Says(said),
+            bad_literal,
+        }),
+        Heard::Reserved(line) => Ok(HeardPart {
+            heard: Heard::Reserved(line),
+            bad_literal,
+        }),
+        Heard::Unread(line) => {
+            if !is_rule_form(reading.form) {
+                return Ok(HeardPart {
+                    heard: Heard::Unread(line),
+                    bad_literal,
+                });
+            }
+            Ok(later_part(alloc, kinds, tokens, words, line, bad_literal, columns)?)
+        }
     }
 }
 
 /// What a sentence says, where these kinds of value are declared.
-#[tactic(auto, unfolding(crate::specs::Understood::understood_by), using(crate::proofs::Lowest::lower_steps))]
+#[tactic(auto, unfolding(crate::specs::Understood::understood_by), using(crate::proofs::Understood::unheard))]
 fn sentence_part(
     alloc: Global,
     kinds: &[WordList],
     tokens: &[PackedToken],
     columns: &mut ColumnStack,
 ) -> Result<HeardPart, AllocError>
-    ensures heard { IfOk result (λ part. part.heard ≡ heard_found kinds.now tokens.now (understood_by kinds.now tokens.now)) }
-    ensures literals { IfOk result (λ part. part.bad_literal ≡ lowest bad_literal_in (read_stretches tokens.now (understood_by kinds.now tokens.now))) }
+    ensures { IfOk result (λ part. IsHeardAs kinds.now tokens.now (understood_by kinds.now tokens.now) part) }
 {
     let line = line_in(tokens);
     let words = with_tags(alloc, tokens)?;
@@ -160,7 +183,7 @@ fn sentence_part(
 }
 
 /// What a part says.
-#[tactic(auto, unfolding(crate::specs::Read::heard_in, crate::specs::Stretches::bad_literal_of))]
+#[tactic(auto, unfolding(crate::specs::Read::IsHeardAs, crate::specs::Read::heard_in, crate::specs::Stretches::bad_literal_of))]
 fn heard_part(
     alloc: Global,
     kinds: &[WordList],

@@ -10,7 +10,9 @@ ghost use Rattle.i7_sentences.specs.Signs.{table_of};
 use crate::column_stack::ColumnStack;
 use crate::form::{HIGHER_FORMS, LOWER_FORMS, MIDDLE_FORMS};
 use crate::matcher::{fit, is_passed_over};
-use crate::needed::{HIGHER_NEEDED, LOWER_NEEDED, MIDDLE_NEEDED, first_word, is_lacking, other_words};
+use crate::needed::{
+    HIGHER_NEEDED, LOWER_NEEDED, MIDDLE_NEEDED, first_word, is_lacking, other_words,
+};
 use crate::signs::Signs;
 use crate::tagged::Tagged;
 use crate::{Form, Keyword, Piece};

@@ -122,9 +122,7 @@ pub const RULE_FORMS: [&[(Form, &[Piece])]; 11] = [
         ),
         (
             Form::NamedHead(HeadBook::Instead, HeadParts::Pattern),
-            &[
-                INSTEAD, OF, WORDS, OPEN, THIS, IS, WORDS, RULE, CLOSE, BODY,
-            ],
+            &[INSTEAD, OF, WORDS, OPEN, THIS, IS, WORDS, RULE, CLOSE, BODY],
         ),
     ],
     &[
@@ -144,9 +142,7 @@ pub const RULE_FORMS: [&[(Form, &[Piece])]; 11] = [
         ),
         (
             Form::NamedHead(HeadBook::CarryOut, HeadParts::Pattern),
-            &[
-                CARRY, OUT, WORDS, OPEN, THIS, IS, WORDS, RULE, CLOSE, BODY,
-            ],
+            &[CARRY, OUT, WORDS, OPEN, THIS, IS, WORDS, RULE, CLOSE, BODY],
         ),
     ],
     &[
@@ -216,9 +212,7 @@ pub const RULE_FORMS: [&[(Form, &[Piece])]; 11] = [
         ),
         (
             Form::NamedHead(HeadBook::PlayBegins, HeadParts::Nothing),
-            &[
-                WHEN, PLAY, BEGINS, OPEN, THIS, IS, WORDS, RULE, CLOSE, BODY,
-            ],
+            &[WHEN, PLAY, BEGINS, OPEN, THIS, IS, WORDS, RULE, CLOSE, BODY],
         ),
     ],
     &[
@@ -228,9 +222,7 @@ pub const RULE_FORMS: [&[(Form, &[Piece])]; 11] = [
         ),
         (
             Form::NamedHead(HeadBook::SceneBegins, HeadParts::Nothing),
-            &[
-                WHEN, NAME, BEGINS, OPEN, THIS, IS, WORDS, RULE, CLOSE, BODY,
-            ],
+            &[WHEN, NAME, BEGINS, OPEN, THIS, IS, WORDS, RULE, CLOSE, BODY],
         ),
     ],
     &[
@@ -240,9 +232,7 @@ pub const RULE_FORMS: [&[(Form, &[Piece])]; 11] = [
         ),
         (
             Form::NamedHead(HeadBook::SceneEnds, HeadParts::Nothing),
-            &[
-                WHEN, NAME, ENDS, OPEN, THIS, IS, WORDS, RULE, CLOSE, BODY,
-            ],
+            &[WHEN, NAME, ENDS, OPEN, THIS, IS, WORDS, RULE, CLOSE, BODY],
         ),
     ],
     &[

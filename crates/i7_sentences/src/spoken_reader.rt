@@ -1,5 +1,5 @@
 //! Reading a phrase: what it says with the words for the letters of its form.
-ghost use Rattle.std.specs.Prelude.{◌≡◌, Some, None, if◌then◌else◌, map, option_map, IfOk};
+ghost use Rattle.std.specs.Prelude.{◌≡◌, Some, None, map, option_map, IfOk};
 ghost use Rattle.i7_sentences.specs.Found.{found_in};
 ghost use Rattle.i7_sentences.specs.SpokenPhrases.{decrease_of, end_story_of, ending_with, follow_of, if_condition, if_of, if_read, increase_of, move_of, now_of, otherwise_condition, otherwise_if_of, pieces_said, repeat_of, say_of, saying_pieces, spoken_by, spoken_found, spoken_in, spoken_of, spoken_with, try_of};
 

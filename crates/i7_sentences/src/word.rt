@@ -35,7 +35,11 @@ fn may_lead(word: &[u8]) -> bool
 pub fn as_read(word: &[u8]) -> &[u8]
     ensures { result.now ≡ as_read word.now }
 {
-    if is_spelled(word, b"are") { b"is" } else { word }
+    if is_spelled(word, b"are") {
+        b"is"
+    } else {
+        word
+    }
 }
 
 /// The bytes of a word as it is read; none of a text or a mark.

@@ -1,5 +1,5 @@
 //! What the descriptions of a tale's objects say.
-ghost use Rattle.std.specs.Prelude.{◌≡◌, IfOk, OnOk};
+ghost use Rattle.std.specs.Prelude.{IfOk, OnOk};
 ghost use Rattle.i7_resolution.specs.Resolutions.{scope_in};
 ghost use Rattle.story_file.specs.Meanings.{AreTexts};
 ghost use Rattle.story_file.specs.Texts.{AddsText, AreReadable, IsReadable, texts_kept};
