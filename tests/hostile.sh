@@ -110,6 +110,13 @@ save_actions("rules_of_actions", [f"go it {n} {APPLYING}" for n in range(184)], 
 save_actions("listings_of_actions", [f"go it {n} {APPLYING}" for n in range(184)], "The list worn rule is listed first in the carry out go it 183 rules.\n" * 3500)
 save_actions("rulebooks_of_actions", [f"go it {n} {APPLYING}" for n in range(184)] + [f"The check go it {n} all rules is a rulebook.\n" for n in range(100)])
 ball = hall + "The ball is in the Hall.\n"
+def save_places(name, last):
+    """Saves a chain of things in boxes, told twice, and a last place that closes a cycle at its one end or the other."""
+    chain = "".join(f"x{n} is in x{n + 1}. " for n in range(900))
+    places = chain * 4
+    open(name + ".i7", "w").write(hall + places * ((longest - len(hall) - 100) // len(places)) + last)
+save_places("places_in_a_circle", "x900 is in x0.")
+save_places("places_in_a_short_circle", "x900 is in x899.")
 def save_texts(name, count, unit, meaning):
     """Saves a sentence that says of so many such texts what they mean."""
     open(name + ".i7", "w").write(ball + "Understand " + "or".join([unit] * count) + "as " + meaning + ".\n")
@@ -289,7 +296,7 @@ for source in *.i7; do
     understand_texts.i7 | understand_words_of_one.i7 | understand_long_words.i7 | understand_words_among_things.i7 | understand_sentences.i7 | understand_lines.i7 | understand_actions.i7) want=0 limit=unlimited ;;
     understand_unknown.i7 | understand_texts_too_many.i7 | understand_long_text.i7 | understand_longer_text.i7 | understand_meaning.i7) limit=unlimited ;;
     actions_in_places.i7 | actions_many.i7 | actions_of_one_name.i7 | actions_of_near_names.i7 | actions_of_one_front.i7 | actions_tried.i7) limit=unlimited ;;
-    closed_texts.i7 | rule_colons.i7 | rule_moves.i7 | rule_gifts.i7 | rule_verbs.i7 | scene_changes.i7 | rule_pattern_words.i7 | rule_substitutions.i7 | rules_many.i7 | long_*) limit=unlimited ;;
+    closed_texts.i7 | places_in_a_* | rule_colons.i7 | rule_moves.i7 | rule_gifts.i7 | rule_verbs.i7 | scene_changes.i7 | rule_pattern_words.i7 | rule_substitutions.i7 | rules_many.i7 | long_*) limit=unlimited ;;
   esac
   (ulimit -v "$limit"; exec timeout 1 "$program" compile "$source" story) 2>err </dev/null
   status=$?
