@@ -6,11 +6,20 @@
 #   transcript   what must be written for them (with the commands echoed, unless `without_echo` is there), or
 #   refusal      the line with which the source must be refused, with status 1
 # Where a transcript or a refusal differs, the difference is printed.
-# Use: tests/rows.sh PROGRAM [ROW]
+# Use: tests/rows.sh [PROGRAM] [ROW]      the program is the built one, and the rows are all, where they aren't named
 set -u
-program=$(realpath "$1")
-rows=${2:-*}
+program=$(dirname "$0")/../crates/i7story/out/i7story
+if [ -f "${1:-}" ] && [ -x "$1" ]; then
+  program=$1
+  shift
+fi
+program=$(realpath -m "$program")
+rows=${1:-*}
 cd "$(dirname "$0")/rows" || exit 1
+if [ ! -x "$program" ] || ! ls -d $rows/ >/dev/null 2>&1; then
+  echo "rows: there is no program $program, or no row $rows"
+  exit 1
+fi
 scratch=$(mktemp -d)
 trap 'rm -rf "$scratch"' EXIT
 passed=0

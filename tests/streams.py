@@ -26,13 +26,13 @@ def reads(stream, text):
     return True
 
 
-def prompts(name, words):
-    """A player that waits for each prompt gets each answer before it types on."""
+def prompts(name, words, echo):
+    """A player that waits for each prompt gets each answer before it types on, behind the line itself if lines are echoed."""
     player = subprocess.Popen(words, stdin=subprocess.PIPE, stdout=subprocess.PIPE, bufsize=0)
     good = reads(player.stdout, OPENING)
     for line, answer in [(b"n\n", b"Garden\n\n>"), (b"s\n", OPENING), (b"n. s\n", b"Garden\n\n" + OPENING), (b"xyzzy\n", b"I don't know that verb.\n\n>")]:
         player.stdin.write(line)
-        good = good and reads(player.stdout, answer)
+        good = good and reads(player.stdout, line * echo + answer)
     player.stdin.close()
     count(f"{name}: a prompt in front of each line", good and player.stdout.read() == b"" and player.wait() == 0)
 
@@ -49,7 +49,8 @@ def main():
         story = os.path.join(scratch, "story")
         subprocess.run([program, "compile", source, story], check=True)
         for name, words in [("run", [program, "run", source]), ("play", [program, "play", story])]:
-            prompts(name, words)
+            prompts(name, words, False)
+            prompts(f"{name} with a transcript", words + ["--transcript"], True)
             folder = os.open(scratch, os.O_RDONLY)
             told(f"{name}: commands from a folder", words, 3, OPENING, b"i7story: V1 Read\n", stdin=folder)
             full = open("/dev/full", "wb")

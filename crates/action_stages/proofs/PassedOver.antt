@@ -1,5 +1,5 @@
 -- The rules that an index passes over aren't about what is there.
-use Rattle.std.proofs.Common.{◌≡◌, ◌∙◌, ap, sym, refl, subst, ℕ, Bool, true, false, map, Option, Some, None}
+use Rattle.std.proofs.Common.{◌≡◌, ◌∙◌, ap, sym, refl, ℕ, Bool, true, false, Option, Some, None}
 use Rattle.std.specs.Prelude.{option_map, slice_get}
 use Rattle.play_meaning.specs.Admitting.{admits}
 use Rattle.play_meaning.specs.CodedStories.{coded_is_about, game_of_codes, head_of}

@@ -24,5 +24,5 @@ pub use end_laws::{
 };
 pub use going::Stage;
 pub use needs::needs_of;
-pub use stage::{consult, count_turn, follow, holds, perform, say, set_scene};
+pub use stage::{LEVELS, consult, count_turn, follow, holds, perform, say, set_scene};
 pub use tale_laws::{games_alike_have_one_session, stories_are_played_as_their_tales};

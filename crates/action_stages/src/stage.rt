@@ -35,8 +35,8 @@ use world_store::World;
 /// The highest turn count.
 const MOST_TURNS: u32 = 2_147_483_647;
 
-/// How many levels actions and rulebooks may be nested below what is done outside an action.
-const LEVELS: u8 = 16;
+/// How many levels actions and rulebooks may be nested below a command's own, or below what is done outside an action.
+pub const LEVELS: u8 = 16;
 
 /// The action that stands for none.
 const NO_ACTION: ActionNow = ActionNow {

@@ -4,10 +4,8 @@ ghost use Rattle.play_meaning.specs.Progress.{most_work};
 ghost use Rattle.world_meaning.specs.declared.session.Abandon.TheVariants.{TooMuchWork};
 
 use std::marker::Model;
+use story_code::MOST_WORK;
 use world_meaning::Abandon;
-
-/// The most work of a command or of the opening.
-const MOST_WORK: u32 = 10_000;
 
 /// Work that was done, in units: the body of a rule that begins is one, and so is a turn of a repeat. There are ten thousand
 /// at the most.

@@ -1,7 +1,7 @@
 //! Codes with what they are judged by, one behind the other: a byte for the use (0 a test, 1 a description, 2 a body), one for
 //! the loops around a test, eleven counts in two bytes each, a byte for how many kinds of value there are and one for how many values each has, the
 //! code's length in three, and the code.
-ghost use Rattle.std.specs.Prelude.{◌<◌, ◌≤◌, ◌+◌, ◌≡◌, length, IfSome};
+ghost use Rattle.std.specs.Prelude.{◌<◌, length, IfSome};
 
 use play_meaning::{Counts, Use};
 use story_code::Sizes;

@@ -7,7 +7,7 @@ mod standard_grammar;
 mod synonym;
 mod token;
 
-pub use line::{GrammarLine, KeptToken};
+pub use line::{GrammarLine, KeptToken, MOST_TOKENS};
 pub use standard_grammar::standard_lines;
 pub use synonym::{Synonym, words_said};
 pub use token::Token;

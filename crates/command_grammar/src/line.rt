@@ -2,6 +2,9 @@
 use play_meaning::ActNo;
 use world_meaning::{Listed, TextBytes};
 
+/// The most tokens of a line.
+pub const MOST_TOKENS: usize = 32;
+
 /// A token of a line that keeps its word.
 #[derive(Debug, Drop)]
 pub enum KeptToken {

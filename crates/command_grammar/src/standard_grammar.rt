@@ -1,5 +1,5 @@
 //! The commands that every story understands (*Writing with Inform*, chapter 17; the Standard Rules).
-ghost use Rattle.std.specs.Prelude.{◌≡◌, ◌∷◌, ◌++◌, [], IfOk, OnOk, map};
+ghost use Rattle.std.specs.Prelude.{◌≡◌, IfOk, map};
 ghost use Rattle.play_meaning.specs.StandardGrammar.{standard_lines};
 ghost use Rattle.command_grammar.specs.Lines.{line_meant, line_of, told_token, token_meant};
 

@@ -1,8 +1,6 @@
 //! A small grammar, told in place.
-ghost use Rattle.std.specs.Prelude.{◌≡◌, [], ◌∷◌, length, slice_get, slice_index_or};
-ghost use Rattle.std.specs.Option.{option_map};
-ghost use Rattle.command_grammar.specs.Lines.{told_token};
-ghost use Rattle.command_tests.specs.Shelves.{grammar, is_of, lines, sees, words_of};
+ghost use Rattle.std.specs.Prelude.{◌≡◌, [], ◌∷◌, slice_index_or};
+ghost use Rattle.command_tests.specs.Shelves.{grammar, is_of, sees};
 
 use command_grammar::Token;
 use command_parser::Commands;

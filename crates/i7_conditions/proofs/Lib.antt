@@ -7,7 +7,6 @@ pub mod FirstParts
 pub mod Counting
 pub mod Cutting
 pub mod Described
-mod Digits
 mod Done
 mod Kept
 mod Leveled

@@ -23,9 +23,8 @@ use Rattle.i7_conditions.specs.declared.verb.Verb.TheVariants.{Carries, Encloses
 
 -- ---- `is`
 
--- `are` reads as `is`
 unfoldable pub is_is : Word → Bool
-is_is word = is_spelled word (codes "is") || is_spelled word (codes "are")
+is_is word = is_spelled word (codes "is")
 
 -- the words in front of the first `is`, and those behind it: no name holds one
 abbrev pub split_is : List Word → Option (List Word × List Word)

@@ -12,7 +12,6 @@ pub mod Fronts
 pub mod Joining
 pub mod Keys
 pub mod Levels
-pub mod Literals
 pub mod Marks
 pub mod Meanings
 pub mod NamesOf

@@ -15,4 +15,9 @@ pub record Scope : Type 0 where
   pub has_operators : Bool
 
 abbrev pub scope_of : Lent → Scope
-scope_of s = record { meanings = meanings_of s.names.now; plurals = plurals_of s.names.now; repeats = s.repeats.now; has_operators = has_operators s.names.now || list_any holds_operator s.repeats.now }
+scope_of s = record {
+  meanings = meanings_of s.names.now;
+  plurals = plurals_of s.names.now;
+  repeats = s.repeats.now;
+  has_operators = has_operators s.names.now || list_any holds_operator s.repeats.now;
+}

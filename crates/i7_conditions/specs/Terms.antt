@@ -4,7 +4,7 @@ use Rattle.std.specs.List.{list_any}
 use Rattle.play_meaning.specs.Trees.{CountOf, Description, Literal, Minus, Number, Object, Plus, PropertyOf, Times, TurnCount, Variable}
 use Rattle.i7_conditions.specs.Describing.{Describes, adjectives_in, froms_in}
 use Rattle.i7_conditions.specs.Keys.{is_named, property_named, split_of, variable_named}
-use Rattle.i7_conditions.specs.Literals.{literal_in}
+use Rattle.world_meaning.specs.Literals.{literal_in}
 use Rattle.i7_conditions.specs.Objects.{Means, froms}
 use Rattle.i7_conditions.specs.Operators.{is_operator}
 use Rattle.i7_conditions.specs.Scopes.{Scope}

@@ -15,12 +15,12 @@ use play_meaning::tree::{Basic, Clause};
 use std::alloc::{AllocError, Global};
 use world_meaning::{TextBytes, is_spelled};
 
-/// Whether the word is `is` or `are`.
+/// Whether the word is `is`.
 #[tactic(auto, unfolding(crate::specs::Clauses::is_is))]
 fn is_is(word: &TextBytes) -> bool
     ensures { result ≡ is_is word.now }
 {
-    is_spelled(word.as_slice(), b"is") || is_spelled(word.as_slice(), b"are")
+    is_spelled(word.as_slice(), b"is")
 }
 
 /// How many words stand in front of the first `is`.

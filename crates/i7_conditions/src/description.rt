@@ -18,7 +18,7 @@ use std::alloc::{AllocError, Global};
 use world_meaning::{Rel, TextBytes};
 
 /// The most adjectives of a description.
-const MOST_ADJECTIVES: usize = 9;
+pub const MOST_ADJECTIVES: usize = 9;
 
 /// The description of these adjectives and this kind, held so.
 fn described(front: Front, held: Option<Held>) -> Found<Description>

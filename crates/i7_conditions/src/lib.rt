@@ -16,7 +16,6 @@ mod joining;
 mod joint;
 mod key;
 mod line;
-mod literal;
 mod mark;
 mod meaning;
 mod names;
@@ -40,7 +39,9 @@ pub use asking::scene_named;
 pub use between::parted_said;
 pub use clause::{clause_of, split_is};
 pub use condition::{condition_of, condition_said, one_condition_is_meant};
-pub use description::{description_of, description_said, one_description_is_meant};
+pub use description::{
+    MOST_ADJECTIVES, description_of, description_said, one_description_is_meant,
+};
 pub use found::Found;
 pub use front::{Front, front_of};
 pub use joining::number_said;

@@ -13,13 +13,12 @@ ghost use Rattle.i7_conditions.specs.Terms.{can_stand, literal_said};
 use crate::description::description_said;
 use crate::found::Found;
 use crate::key::{is_named, property_named, split_of, variable_named};
-use crate::literal::literal_in;
 use crate::object::object_said;
 use crate::operator::is_operator;
 use crate::scope::{Scope, has_operators};
 use play_meaning::tree::{Description, Referent, Term};
 use std::alloc::{AllocError, Global};
-use world_meaning::TextBytes;
+use world_meaning::{TextBytes, literal_in};
 
 /// The literal that one word is.
 fn literal_said(words: &[TextBytes]) -> Option<i32>

@@ -10,17 +10,11 @@ ghost use Rattle.i7_grammar.specs.Understood.{all_lent, understood_lent};
 use crate::target::Target;
 use crate::text_tokens::{has_slot, tokens_of};
 use crate::understood::Understood;
-use command_grammar::KeptToken;
+use command_grammar::{KeptToken, MOST_TOKENS};
 use i7_actions::NounCount;
 use i7_sentences::lower_of;
 use std::alloc::{AllocError, Global};
-use world_meaning::TextBytes;
-
-/// The most bytes of a text.
-const MOST_BYTES: usize = 65535;
-
-/// The most tokens of a line.
-const MOST_TOKENS: usize = 32;
+use world_meaning::{MOST_BYTES, TextBytes};
 
 /// The line, where something isn't so.
 pub fn line_unless(is_so: bool, line: u32) -> Option<u32>

@@ -1,6 +1,6 @@
 -- The scan for kinds of value without values finds the lowest line of one, and where no list is too long each kind has few values.
-use Rattle.std.proofs.Common.{◌≡◌, ℕ, suc, ◌+◌, ◌≤◌, Bool, true, false, ◌&&◌, List, [], ◌∷◌, ◌++◌, length, Option, refl, sym, ap, subst, arith, inl, inr}
-use Rattle.std.specs.Prelude.{Some, None, Decides, bytes_eq, fold, nat_lt}
+use Rattle.std.proofs.Common.{◌≡◌, ℕ, suc, ◌+◌, ◌≤◌, false, ◌&&◌, List, [], ◌∷◌, ◌++◌, length, Option, refl, sym, ap, subst, arith, inl, inr}
+use Rattle.std.specs.Prelude.{None, Decides, bytes_eq, fold}
 use Rattle.std.proofs.lemmas.Bool.{cases_Bool, ltb-false}
 use Rattle.std.proofs.lemmas.Bool.Decides.{Decides-and}
 use Rattle.i7_claims.specs.Listings.{listed_in, values_listed}

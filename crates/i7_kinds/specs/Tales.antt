@@ -240,10 +240,10 @@ said_twice s claims descriptions =
     earlier (name_twice claims) (earlier (book_twice claims) (earlier (list_twice claims) (earlier (second_description descriptions) (any_value_twice s claims))))
 
 -- what sentences may not say together, by the lowest lines: C9 of a name that stands for two things, of a rulebook's that
--- is another's, of a second list of values, of a second description and of another value of a property or a variable; C7 of a kind that isn't
--- there and of words that name nothing; C11 of a cycle of kinds or of holders; C8 of demands off one path and of what the kinds don't allow; C10 of an exit's or an object's second place, and of a door
--- whose rooms are told again; C12 of a name that is one too many and of a list of
--- values that is too long; C16 of a kind of value without values
+-- is another's, of a second list of values, of a second description and of another value of a property or a variable; C7 of a
+-- kind that isn't there and of words that name nothing; C11 of a cycle of kinds or of holders; C8 of demands off one path and of
+-- what the kinds don't allow; C10 of an exit's or an object's second place, and of a door whose rooms are told again; C12 of a
+-- name that is one too many and of a list of values that is too long; C16 of a kind of value without values
 abbrev pub faults_of : Scope → List Known → List Claim → List NumberedSentence → Faults
 faults_of s knowns claims statements = record {
   twice = said_twice s claims (descriptions_of s.parents knowns statements);

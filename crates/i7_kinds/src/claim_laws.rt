@@ -44,7 +44,8 @@ pub fn holder_cycles_are_found()
 
 /// The objects that are told of as doors are those of which some sentence demands a door, wherever it stands.
 pub fn doors_are_those_demanded()
-    ensures { (kinds : List (List ℕ)) (parents : List (Option ℕ)) (claims : List Claim) (object : List ℕ) → Decides (has_name (doors_of kinds parents claims) object) (IsDoorDemanded kinds parents claims object) }
+    ensures { (kinds : List (List ℕ)) (parents : List (Option ℕ)) (claims : List Claim) (object : List ℕ)
+        → Decides (has_name (doors_of kinds parents claims) object) (IsDoorDemanded kinds parents claims object) }
 {}
 
 /// A sentence that tells the rooms of a door again is found at its lowest line.
@@ -54,7 +55,8 @@ pub fn doors_twice_are_found()
 
 /// Another value of a property of an object, of what is usual of a kind, or of a variable is found at its lowest line.
 pub fn values_twice_are_found()
-    ensures { (bearer : Bearer) (scope : Scope) (claims : List Claim) → IsLowest (ShownBy (λ before c. IsContrary (values_by bearer scope before) (told_by bearer scope c.fact)) claims) (value_twice bearer scope claims) }
+    ensures { (bearer : Bearer) (scope : Scope) (claims : List Claim)
+        → IsLowest (ShownBy (λ before c. IsContrary (values_by bearer scope before) (told_by bearer scope c.fact)) claims) (value_twice bearer scope claims) }
 {}
 
 /// The description of an object of a tale stands in one of the sentences that mean the tale.

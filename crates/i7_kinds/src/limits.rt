@@ -9,15 +9,13 @@ use crate::descriptions::Description;
 use i7_claims::{Claim, FIRST_OF_AUTHOR, Fact, Mention, lower};
 use object_words::words_for;
 use std::alloc::{AllocError, Global};
+use world_meaning::MOST_BYTES;
 
 /// The most objects of a story, the player and the directions counted.
 const MOST_OBJECTS: usize = 1000;
 
 /// The most words of an object.
 const MOST_WORDS: usize = 32;
-
-/// The most bytes of a name or a text.
-pub const MOST_BYTES: usize = 65_535;
 
 /// The line of the mention that is one object too many.
 pub fn object_too_many(mentions: &[Mention<'_>]) -> Option<u32>

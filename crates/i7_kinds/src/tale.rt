@@ -22,7 +22,7 @@ use crate::doors::doors_of;
 use crate::faults::{Faults, faults_of};
 use crate::grants::givens_of;
 use crate::knowns::{Known, known_by};
-use crate::limits::{MOST_BYTES, longer_name, name_too_long, object_too_many, text_too_long};
+use crate::limits::{longer_name, name_too_long, object_too_many, text_too_long};
 use crate::making::{kinds_of, places_in};
 use crate::objects::{Makings, objects_of};
 use crate::places::places_by;
@@ -37,7 +37,7 @@ use i7_claims::{
 use i7_sentences::Sentence;
 use object_words::Strings;
 use std::alloc::{AllocError, Global};
-use world_meaning::{Declared, Fault, FaultCode, Listed, Object, Place, Tale};
+use world_meaning::{Declared, Fault, FaultCode, Listed, MOST_BYTES, Object, Place, Tale};
 
 /// The refusal at a line, if there is one.
 fn refusal_at(code: FaultCode, line: Option<u32>) -> Option<Fault>

@@ -13,7 +13,8 @@ folded_run run = if newlines run == 0 then run else (if newlines run == 1 then 3
 pub data IsFolded : List ℕ → List ℕ → Type 0 where
   nothing : IsFolded [] []
   byte : {b : ℕ} {bytes text : List ℕ} → is_blank b ≡ false → IsFolded bytes text → IsFolded (b ∷ bytes) (b ∷ text)
-  white : {blanks bytes text : List ℕ} → blanks ≢ [] → list_all is_blank blanks ≡ true → begins_with is_blank bytes ≡ false → IsFolded bytes text → IsFolded (blanks ++ bytes) (folded_run blanks ++ text)
+  white : {blanks bytes text : List ℕ} → blanks ≢ [] → list_all is_blank blanks ≡ true → begins_with is_blank bytes ≡ false → IsFolded bytes text
+      → IsFolded (blanks ++ bytes) (folded_run blanks ++ text)
 
 abbrev pub is_unblank : ℕ → Bool
 is_unblank b = not (is_blank b)

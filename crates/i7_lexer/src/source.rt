@@ -2,7 +2,7 @@
 ghost use Rattle.std.specs.Prelude.{◌≡◌, ◌≤◌, length, IfOk, MatchOption};
 ghost use Rattle.std.specs.List.{prefix_len};
 ghost use Rattle.std.specs.Str.Lossy.{utf8_valid_len};
-ghost use Rattle.i7_lexer.specs.Sources.{text_of, without_mark, without_returns, is_unreturned, starts_with_feed, starts_with_control, is_control, is_late_control, plain_len, IsBad, IsFirstBad, IsText};
+ghost use Rattle.i7_lexer.specs.Sources.{text_of, without_mark, without_returns, is_unreturned, starts_with_feed, starts_with_control, is_control, is_late_control, plain_len, IsFirstBad, IsText};
 
 use std::alloc::{AllocError, Global};
 use std::str;

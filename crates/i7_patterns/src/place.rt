@@ -5,11 +5,9 @@ ghost use Rattle.play_meaning.specs.Patterns.{aspect_meant};
 ghost use Rattle.i7_patterns.specs.Places.{asks_value, is_long, is_place, is_right_place, is_room, is_value};
 ghost use Rattle.std.specs.List.{list_any, slice_get};
 
+use i7_conditions::MOST_ADJECTIVES;
 use play_meaning::tree::{Adjective, Aspect, Quality};
 use world_meaning::{KindNo, ObjNo, Object, is_under};
-
-/// The most adjectives of a description.
-const MOST_ADJECTIVES: usize = 9;
 
 /// Whether this object is a room.
 fn is_room(parents: &[Option<KindNo>], objects: &[Object], object: ObjNo) -> bool

@@ -24,7 +24,7 @@ block_found s (spoken.OtherwiseIf words) =
     (refl, one_found OtherwiseIf (IsCondition s words) asks_over block_is_over (λ c. refl) (condition_said s words) (conditions_found s words (condition_said s words) refl))
 block_found s spoken.Otherwise = (refl, (refl, refl))
 block_found s (spoken.Repeat name through) = (refl, one_found Repeat (Describes s through) is_long block_is_over (λ d. refl) (description_said s through) (description_found s through))
-block_found s (spoken.Say text) = refl
+block_found s (spoken.Say text bytes) = refl
 block_found s (spoken.Now words) = refl
 block_found s (spoken.Move words) = refl
 block_found s (spoken.Increase value amount) = refl

@@ -31,14 +31,16 @@ pub fn one_list_of_listings()
 
 /// No sentences have two answers about when scenes begin and end.
 pub fn one_list_of_scenes()
-    ensures { (k : Known) (recurring : List Bool) (sentences : List Said) (a b : Staged) → IsScenesFound k recurring sentences a → IsScenesFound k recurring sentences b → scenes_meant a ≡ scenes_meant b }
+    ensures { (k : Known) (recurring : List Bool) (sentences : List Said) (a b : Staged)
+        → IsScenesFound k recurring sentences a → IsScenesFound k recurring sentences b → scenes_meant a ≡ scenes_meant b }
 {
     one_condition_is_meant();
 }
 
 /// No sentences are resolved in two ways.
 pub fn one_resolution()
-    ensures { (k : Known) (recurring : List Bool) (sentences : List Said) (a b : Told) → IsResolution k recurring sentences a → IsResolution k recurring sentences b → resolution_meant a ≡ resolution_meant b }
+    ensures { (k : Known) (recurring : List Bool) (sentences : List Said) (a b : Told)
+        → IsResolution k recurring sentences a → IsResolution k recurring sentences b → resolution_meant a ≡ resolution_meant b }
 {
     one_list_of_rules();
     one_list_of_texts();

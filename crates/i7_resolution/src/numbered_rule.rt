@@ -5,7 +5,8 @@ ghost use Rattle.i7_rules.specs.Knowns.{known_of};
 ghost use Rattle.i7_rules.specs.RuleList.{name_of, rules_lent, standard_names};
 ghost use Rattle.i7_resolution.specs.NumberedRules.{HasBook, all_names, is_named, rule_named};
 
-use i7_rules::{Known, RuleAt, STANDARD_NAMES, book_of_head, name_of, rule_key};
+use i7_conditions::key_of;
+use i7_rules::{Known, RuleAt, STANDARD_NAMES, book_of_head, name_of};
 use rule_order::standard_book;
 use std::alloc::{AllocError, Global};
 use world_meaning::TextBytes;
@@ -70,7 +71,7 @@ pub fn rule_named(
 ) -> Result<Option<usize>, AllocError>
     ensures { IfOk result (λ rule. rule ≡ rule_named names.now words.now) }
 {
-    let key = rule_key(alloc, words)?;
+    let key = key_of(alloc, words)?;
     let key = key.as_slice();
     Ok(names.iter().position(|name| is_named(key, name)))
 }

@@ -63,7 +63,7 @@ changed_once laws s said p q one other =
     ]
 
 does_once : (laws : AreOnce) (k : Known) (s : Scope) (said : Spoken) → IsOnce (Does k s said)
-does_once laws k s (spoken.Say pieces) = made_once (saying (ends_sentence pieces)) (IsText s pieces) (laws.text s pieces)
+does_once laws k s (spoken.Say pieces bytes) = made_once (saying (ends_sentence pieces)) (IsText s pieces) (laws.text s pieces)
 does_once laws k s (spoken.Try silently words) = made_once (trying silently) (Tries k.actions s words) (laws.action k.actions s words)
 does_once laws k s (spoken.Follow words) = made_once tree.Follow (IsFollowed k.actions k.rulebooks k.scenes words) (laws.book k.actions k.rulebooks k.scenes words)
 does_once laws k s (spoken.Now words) = changed_once laws s (spoken.Now words)
@@ -94,7 +94,7 @@ no_block_does k s (spoken.If words) p block does opens = ends_nothing s (spoken.
 no_block_does k s (spoken.OtherwiseIf words) p block does opens = ends_nothing s (spoken.OtherwiseIf words) p (λ no. no) refl does
 no_block_does k s spoken.Otherwise p block does opens = ends_nothing s spoken.Otherwise p (λ no. no) refl does
 no_block_does k s (spoken.Repeat name through) p block does opens = ends_nothing s (spoken.Repeat name through) p (λ no. no) refl does
-no_block_does k s (spoken.Say pieces) p block does opens = opens
+no_block_does k s (spoken.Say pieces bytes) p block does opens = opens
 no_block_does k s (spoken.Try silently words) p block does opens = opens
 no_block_does k s (spoken.Follow words) p block does opens = opens
 no_block_does k s (spoken.Now words) p block does opens = opens

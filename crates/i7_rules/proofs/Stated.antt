@@ -20,7 +20,7 @@ use Rattle.i7_phrases.specs.Limits.{phrase_is_over}
 use Rattle.i7_phrases.specs.Told.{IsToldOf}
 use Rattle.i7_rules.specs.Doings.{Does}
 use Rattle.i7_rules.specs.Knowns.{Known, nearest, scope_near}
-use Rattle.i7_rules.specs.Lines.{Begun, Done, IsDone, Stated, States, StatesAmong, done_by, found_stated, is_ninth, is_over, is_over_among, limited}
+use Rattle.i7_rules.specs.Lines.{Begun, Done, IsDone, Stated, States, StatesAmong, done_by, found_stated, is_beyond, is_over, is_over_among, limited}
 
 -- ---- blocks do nothing, and what does something is no block
 
@@ -29,7 +29,7 @@ nothing_opens s (spoken.If words) opens = let e = opens.2 in absurd cc
 nothing_opens s (spoken.OtherwiseIf words) opens = let e = opens.2 in absurd cc
 nothing_opens s spoken.Otherwise opens = absurd cc
 nothing_opens s (spoken.Repeat name through) opens = let e = opens.2 in absurd cc
-nothing_opens s (spoken.Say text) opens = opens
+nothing_opens s (spoken.Say text bytes) opens = opens
 nothing_opens s (spoken.Now words) opens = opens
 nothing_opens s (spoken.Move words) opens = opens
 nothing_opens s (spoken.Increase value amount) opens = opens
@@ -48,7 +48,7 @@ no_other_opens s (spoken.If words) b is opens = absurd cc
 no_other_opens s (spoken.OtherwiseIf words) b is opens = absurd cc
 no_other_opens s spoken.Otherwise b is opens = absurd cc
 no_other_opens s (spoken.Repeat name through) b is opens = absurd cc
-no_other_opens s (spoken.Say text) b is opens = opens
+no_other_opens s (spoken.Say text bytes) b is opens = opens
 no_other_opens s (spoken.Now words) b is opens = opens
 no_other_opens s (spoken.Move words) b is opens = opens
 no_other_opens s (spoken.Increase value amount) b is opens = opens
@@ -70,7 +70,7 @@ blocks_do_nothing k s (spoken.If words) p is does = elim does [ inl changes ↦ 
 blocks_do_nothing k s (spoken.OtherwiseIf words) p is does = elim does [ inl changes ↦ changes | inr ends ↦ none_is p ends ]
 blocks_do_nothing k s spoken.Otherwise p is does = elim does [ inl changes ↦ changes | inr ends ↦ none_is p ends ]
 blocks_do_nothing k s (spoken.Repeat name through) p is does = elim does [ inl changes ↦ changes | inr ends ↦ none_is p ends ]
-blocks_do_nothing k s (spoken.Say text) p is does = absurd cc
+blocks_do_nothing k s (spoken.Say text bytes) p is does = absurd cc
 blocks_do_nothing k s (spoken.Now words) p is does = absurd cc
 blocks_do_nothing k s (spoken.Move words) p is does = absurd cc
 blocks_do_nothing k s (spoken.Increase value amount) p is does = absurd cc
@@ -117,7 +117,7 @@ doing_stated k s p Unread found is e h = subst (IsFoundAs (States k s p) is_over
 
 -- ---- limits
 
-pub limited_found : (Means : Stated → Type 0) (over : Stated → Bool) (is_ninth : Bool) (found : Found Stated) → IsFoundAs Means over found → IsFoundAs Means (λ stated. over stated || is_ninth) (limited is_ninth found)
+pub limited_found : (Means : Stated → Type 0) (over : Stated → Bool) (beyond : Bool) (found : Found Stated) → IsFoundAs Means over found → IsFoundAs Means (λ stated. over stated || beyond) (limited beyond found)
 limited_found Means over true (Read stated) h = (stated, h.0, or-true (over stated))
 limited_found Means over true TooMany h = (h.0, h.1, or-true (over h.0))
 limited_found Means over true Unread h = h
@@ -139,9 +139,9 @@ done_at k s p doing found e is = λ none. doing_stated k s p doing found none e 
 pub doing_at : (k : Known) (s : Scope) (p : RulePhrase) (told : Option (Found Step)) (found : Found Stated) → IsBlockTold s p told → told ≡ None → IsDone k s p found → IsFoundAs (States k s p) is_over found
 doing_at k s p told found h none done = done (subst (IsBlockTold s p) none h)
 
-pub step_at : (k : Known) (names near : List Word) (p : RulePhrase) (ninth : Bool) (inner outer : Found Stated) → near ≡ nearest names → ninth ≡ is_ninth names p → outer ≡ limited ninth inner
+pub step_at : (k : Known) (names near : List Word) (p : RulePhrase) (beyond : Bool) (inner outer : Found Stated) → near ≡ nearest names → beyond ≡ is_beyond names p → outer ≡ limited beyond inner
     → IsFoundAs (States k (scope_near k near) p) is_over inner → IsFoundAs (StatesAmong k names p) (is_over_among names p) outer
-step_at k names near p ninth inner outer at e is h =
+step_at k names near p beyond inner outer at e is h =
     subst (IsFoundAs (StatesAmong k names p) (is_over_among names p)) (sym is)
     (subst (λ (b : Bool). IsFoundAs (StatesAmong k names p) (is_over_among names p) (limited b inner)) (sym e)
-    (limited_found (StatesAmong k names p) is_over (is_ninth names p) inner (subst (λ (ns : List Word). IsFoundAs (States k (scope_near k ns) p) is_over inner) at h)))
+    (limited_found (StatesAmong k names p) is_over (is_beyond names p) inner (subst (λ (ns : List Word). IsFoundAs (States k (scope_near k ns) p) is_over inner) at h)))

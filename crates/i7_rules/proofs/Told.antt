@@ -24,7 +24,7 @@ use Rattle.i7_phrases.specs.Limits.{phrase_is_over}
 use Rattle.i7_phrases.specs.Phrases.{Changes, closing, ending_of, is_change}
 use Rattle.i7_phrases.specs.Texts.{IsText, text_is_over}
 use Rattle.i7_phrases.specs.Told.{IsToldOf}
-use Rattle.i7_rules.specs.Doings.{ChangesOrEnds, Does, Follows, TriesSo, following, found_if, trying}
+use Rattle.i7_rules.specs.Doings.{ChangesOrEnds, Does, Follows, SaysSo, TriesSo, following, found_if, trying}
 use Rattle.i7_rules.specs.Knowns.{Known}
 use Rattle.i7_rules.specs.Saying.{ends_sentence, saying, with_break}
 
@@ -44,10 +44,10 @@ closed_is_within : (is_sentence : Bool) (text : tree.Text) → phrase_is_over (s
 closed_is_within false text = refl
 closed_is_within true text = breaks_are_within text
 
-pub text_told : (k : Known) (s : Scope) (pieces : List TextPiece) (text : Found tree.Text) (found : Found tree.Phrase) → found ≡ one (saying (ends_sentence pieces)) text
-    → IsFoundAs (IsText s pieces) text_is_over text → IsFoundAs (Does k s (spoken.Say pieces)) phrase_is_over found
-text_told k s pieces text found e h =
-    subst (IsFoundAs (Does k s (spoken.Say pieces)) phrase_is_over) (sym e)
+pub text_told : (s : Scope) (pieces : List TextPiece) (text : Found tree.Text) (found : Found tree.Phrase) → found ≡ one (saying (ends_sentence pieces)) text
+    → IsFoundAs (IsText s pieces) text_is_over text → IsFoundAs (SaysSo s pieces) phrase_is_over found
+text_told s pieces text found e h =
+    subst (IsFoundAs (SaysSo s pieces) phrase_is_over) (sym e)
     (one_found (saying (ends_sentence pieces)) (IsText s pieces) text_is_over phrase_is_over (closed_is_within (ends_sentence pieces)) text h)
 
 -- ---- `try` and `follow`
@@ -69,7 +69,7 @@ changes_end_nothing (spoken.Now words) is = refl
 changes_end_nothing (spoken.Move words) is = refl
 changes_end_nothing (spoken.Increase value amount) is = refl
 changes_end_nothing (spoken.Decrease value amount) is = refl
-changes_end_nothing (spoken.Say text) is = refl
+changes_end_nothing (spoken.Say text bytes) is = refl
 changes_end_nothing (spoken.Try silently action) is = refl
 changes_end_nothing (spoken.Follow book) is = refl
 changes_end_nothing (spoken.If words) is = refl
@@ -88,7 +88,7 @@ no_other_changes s (spoken.Now words) p is changes = absurd cc
 no_other_changes s (spoken.Move words) p is changes = absurd cc
 no_other_changes s (spoken.Increase value amount) p is changes = absurd cc
 no_other_changes s (spoken.Decrease value amount) p is changes = absurd cc
-no_other_changes s (spoken.Say text) p is changes = changes
+no_other_changes s (spoken.Say text bytes) p is changes = changes
 no_other_changes s (spoken.Try silently action) p is changes = changes
 no_other_changes s (spoken.Follow book) p is changes = changes
 no_other_changes s (spoken.If words) p is changes = changes
@@ -119,7 +119,7 @@ ending_within (spoken.Now words) p e = none_within p e
 ending_within (spoken.Move words) p e = none_within p e
 ending_within (spoken.Increase value amount) p e = none_within p e
 ending_within (spoken.Decrease value amount) p e = none_within p e
-ending_within (spoken.Say text) p e = none_within p e
+ending_within (spoken.Say text bytes) p e = none_within p e
 ending_within (spoken.Try silently action) p e = none_within p e
 ending_within (spoken.Follow book) p e = none_within p e
 ending_within (spoken.If words) p e = none_within p e
@@ -156,10 +156,16 @@ pub ending_at : (s : Scope) (said : Spoken) (told : Option (Found Kept)) (found 
 ending_at s said told found h e is =
     subst (IsFoundAs (ChangesOrEnds s said) phrase_is_over) (sym is) (ending_told s said (ending_of said) refl (subst (IsChangeTold s said) e h))
 
+-- a phrase that says a text does what saying it does
+pub says_does : (k : Known) (s : Scope) (said : Spoken) (pieces text : List TextPiece) (bytes : ℕ) → said ≡ spoken.Say text bytes → pieces ≡ text
+    → (found : Found tree.Phrase) → IsFoundAs (SaysSo s pieces) phrase_is_over found → IsFoundAs (Does k s said) phrase_is_over found
+says_does k s said pieces text bytes is same found h =
+    subst (λ (other : Spoken). IsFoundAs (Does k s other) phrase_is_over found) (sym is) (subst (λ (all : List TextPiece). IsFoundAs (SaysSo s all) phrase_is_over found) same h)
+
 -- a phrase that says nothing, tries nothing and follows nothing changes the world or ends something
-pub other_does : (k : Known) (s : Scope) (said : Spoken) (found : Found tree.Phrase) → ((text : List TextPiece) → said ≡ spoken.Say text → ⊥) → ((silently : Bool) (action : List Word) → said ≡ spoken.Try silently action → ⊥)
+pub other_does : (k : Known) (s : Scope) (said : Spoken) (found : Found tree.Phrase) → ((text : List TextPiece) (bytes : ℕ) → said ≡ spoken.Say text bytes → ⊥) → ((silently : Bool) (action : List Word) → said ≡ spoken.Try silently action → ⊥)
     → ((book : List Word) → said ≡ spoken.Follow book → ⊥) → IsFoundAs (ChangesOrEnds s said) phrase_is_over found → IsFoundAs (Does k s said) phrase_is_over found
-other_does k s (spoken.Say text) found a b c h = absurd (a text refl)
+other_does k s (spoken.Say text bytes) found a b c h = absurd (a text bytes refl)
 other_does k s (spoken.Try silently action) found a b c h = absurd (b silently action refl)
 other_does k s (spoken.Follow book) found a b c h = absurd (c book refl)
 other_does k s (spoken.Now words) found a b c h = h

@@ -2,6 +2,7 @@
 use Rattle.std.specs.Prelude.{◌≡◌, ◌⊎◌, ℕ, Bool, List, Option, None, Some}
 use Rattle.i7_sentences.specs.declared.spoken.Spoken.{Spoken}
 use Rattle.i7_sentences.specs.declared.spoken.Spoken.TheVariants as spoken
+use Rattle.i7_sentences.specs.declared.text_piece.TextPiece.{TextPiece}
 use Rattle.play_meaning.specs.Trees as tree
 use Rattle.i7_actions.specs.Books.{IsFollowed}
 use Rattle.i7_actions.specs.Trying.{Tries, Try}
@@ -26,8 +27,11 @@ Follows k words p = (book : ℕ) × IsFollowed k.actions k.rulebooks k.scenes wo
 abbrev pub ChangesOrEnds : Scope → Spoken → tree.Phrase → Type 0
 ChangesOrEnds s said p = Changes s said p ⊎ (ending_of said ≡ Some p)
 
+abbrev pub SaysSo : Scope → List TextPiece → tree.Phrase → Type 0
+SaysSo s pieces p = (text : tree.Text) × IsText s pieces text × (p ≡ saying (ends_sentence pieces) text)
+
 abbrev pub Does : Known → Scope → Spoken → tree.Phrase → Type 0
-Does k s (spoken.Say pieces) p = (text : tree.Text) × IsText s pieces text × (p ≡ saying (ends_sentence pieces) text)
+Does k s (spoken.Say pieces bytes) p = SaysSo s pieces p
 Does k s (spoken.Try silently words) p = TriesSo k s silently words p
 Does k s (spoken.Follow words) p = Follows k words p
 Does k s said p = ChangesOrEnds s said p

@@ -1,6 +1,8 @@
 -- What a phrase is as a line of a rule's body: something that is done, or a block that others belong to.
-use Rattle.std.specs.Prelude.{◌≡◌, Bool, true, false, ◌&&◌, ◌||◌, nat_le, List, length, is_some}
+use Rattle.std.specs.Prelude.{◌≡◌, Bool, true, false, ◌&&◌, ◌||◌, nat_le, nat_lt, List, length, Some, is_some}
 use Rattle.i7_sentences.specs.declared.rule.RulePhrase.{RulePhrase}
+use Rattle.i7_sentences.specs.declared.spoken.Spoken.{Spoken}
+use Rattle.i7_sentences.specs.declared.spoken.Spoken.TheVariants as spoken
 use Rattle.play_meaning.specs.Meant.{simple_meant}
 use Rattle.play_meaning.specs.Trees as tree
 use Rattle.i7_conditions.specs.Scopes.{Scope}
@@ -44,8 +46,18 @@ is_over (Begun block) = block_is_over block
 abbrev pub is_ninth : List Word → RulePhrase → Bool
 is_ninth names p = is_some (name_given p.said) && nat_le 8 (length names)
 
+-- a text of over 65,535 bytes as it is written
+abbrev pub says_long : Spoken → Bool
+says_long (spoken.Say pieces bytes) = nat_lt 65535 bytes
+says_long (spoken.EndStory (Some text)) = nat_lt 65535 (length text)
+says_long _ = false
+
+-- whatever its words mean
+abbrev pub is_beyond : List Word → RulePhrase → Bool
+is_beyond names p = is_ninth names p || says_long p.said
+
 abbrev pub is_over_among : List Word → RulePhrase → Stated → Bool
-is_over_among names p stated = is_over stated || is_ninth names p
+is_over_among names p stated = is_over stated || is_beyond names p
 
 abbrev pub is_over_behind : List RulePhrase → RulePhrase → Stated → Bool
 is_over_behind before p = is_over_among (repeats_around before p) p
@@ -60,7 +72,7 @@ stated_in block = Begun (block_in block)
 abbrev pub found_stated : Found Step → Found Stated
 found_stated = one stated_in
 
--- what means something is too many where it stands in too many repeats
+-- what means something is too many where it goes beyond a limit whatever it means
 abbrev pub limited : Bool → Found Stated → Found Stated
 limited false found = found
 limited true (Read stated) = TooMany

@@ -1,11 +1,10 @@
 -- The rules among a source's sentences, in order, with their names.
-use Rattle.std.specs.Prelude.{ℕ, List, [], ◌∷◌, Option, Some, None, codes, flat_map, if◌then◌else◌, map, option_map}
-use Rattle.world_meaning.specs.Spelling.{is_spelled}
+use Rattle.std.specs.Prelude.{ℕ, List, [], ◌∷◌, Option, Some, None, flat_map, map, option_map}
 use Rattle.i7_sentences.specs.declared.rule.Rule.{Rule}
 use Rattle.i7_sentences.specs.declared.sentence.Assertion.{Assertion}
 use Rattle.i7_sentences.specs.declared.sentence.Assertion.TheVariants as asserts
 use Rattle.i7_sentences.specs.declared.sentence.Sentence.{Sentence}
-use Rattle.i7_conditions.specs.Words.{Word, key_of}
+use Rattle.i7_conditions.specs.Words.{key_of}
 use Rattle.i7_rules.specs.declared.rule_list.RuleAt.{RuleAt as Lent}
 use Rattle.i7_rules.specs.declared.standard_names.TheConstants.{STANDARD_NAMES}
 
@@ -37,17 +36,9 @@ placed (rule ∷ before) = record { rule = rule; before = before } ∷ placed be
 
 -- ---- names
 
--- `are` reads as `is`
-unfoldable pub read_word : Word → Word
-read_word word = if is_spelled word (codes "are") then codes "is" else word
-
--- the words of a rule's name in small letters, parted by one space
-abbrev pub rule_key : List Word → List ℕ
-rule_key words = key_of (map read_word words)
-
--- a rule's name, if it has one
+-- a rule's name, if it has one: its words in small letters, parted by one space
 abbrev pub name_of : RuleAt → Option (List ℕ)
-name_of r = option_map rule_key r.rule.name
+name_of r = option_map key_of r.rule.name
 
 unfoldable pub standard_names : List (List ℕ)
 standard_names = map (λ name. name.now) STANDARD_NAMES

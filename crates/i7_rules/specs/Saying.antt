@@ -1,12 +1,9 @@
 -- What `say` says: a text that ends a sentence is followed by a line break (*Writing with Inform*, 5.6).
 use Rattle.std.specs.Prelude.{ℕ, ◌==◌, Bool, false, true, ◌&&◌, ◌||◌, List, [], ◌∷◌}
+use Rattle.i7_sentences.specs.Cuts.{is_final}
 use Rattle.i7_sentences.specs.declared.text_piece.TextPiece.{TextPiece}
 use Rattle.i7_sentences.specs.declared.text_piece.TextPiece.TheVariants.{Printed}
 use Rattle.play_meaning.specs.Trees as tree
-
--- a full stop, a question mark or an exclamation mark
-abbrev pub is_final : ℕ → Bool
-is_final byte = (byte == 46) || ((byte == 63) || (byte == 33))
 
 -- nothing, or a quote alone, which is how a single quote at a word's edge is printed
 abbrev pub is_end : List ℕ → Bool

@@ -104,7 +104,7 @@ pub fn doing_of(
     ensures { IfOk result (λ found. IsFoundAs (Does (known_of known.now) (scope_of scope.now) said.now) phrase_is_over (found_simple found)) }
 {
     match said {
-        Spoken::Say(pieces) => said_of(alloc, known, scope, pieces.as_slice()),
+        Spoken::Say { text, .. } => said_of(alloc, scope, text.as_slice()),
         Spoken::Try { is_silent, action } => {
             try_of(alloc, known, scope, *is_silent, action.as_slice())
         }

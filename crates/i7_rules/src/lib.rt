@@ -22,6 +22,6 @@ pub use known::Known;
 pub use laws::{heads_ask_what_is, one_list_of_rules, one_rule_is_told};
 pub use rule::{RuleFound, rule_of};
 pub use rule_list::{RuleAt, rules_in};
-pub use rule_names::{name_of, rule_key};
+pub use rule_names::name_of;
 pub use source_rules::{RulesFound, SourceRule, rules_of};
 pub use standard_names::STANDARD_NAMES;

@@ -1,7 +1,7 @@
 //! The names of rules, none of which is given twice: `This is the tidy rule`.
 ghost use Rattle.std.specs.Prelude.{◌≡◌, fold, map, reverse, IfOk, OnOk};
 ghost use Rattle.object_words.specs.Mentions.{mention};
-ghost use Rattle.i7_rules.specs.RuleList.{name_of, placed, read_word, rule_key, rule_lent, rules_lent};
+ghost use Rattle.i7_rules.specs.RuleList.{name_of, placed, rule_lent, rules_lent};
 ghost use Rattle.i7_rules.specs.RuleScans.{IsLow, mention_name, standard_mentions, twice_at};
 ghost use Rattle.i7_rules.specs.SourceRules.{IsNamedTwice};
 
@@ -11,32 +11,7 @@ use i7_conditions::key_of;
 use i7_sentences::lower_of;
 use object_words::Strings;
 use std::alloc::{AllocError, Global};
-use world_meaning::{TextBytes, is_spelled};
-
-/// A word of a rule's name: `is` in place of `are`.
-#[tactic(auto, unfolding(crate::specs::RuleList::read_word))]
-fn read_word(alloc: Global, word: &TextBytes) -> Result<TextBytes, AllocError>
-    ensures { IfOk result (λ read. read ≡ read_word word.now) }
-{
-    if is_spelled(word.as_slice(), b"are") {
-        TextBytes::copied(alloc, b"is")
-    } else {
-        TextBytes::copied(alloc, word.as_slice())
-    }
-}
-
-/// The words of a rule's name in small letters, parted by one space, `are` read as `is`.
-pub fn rule_key(alloc: Global, words: &[TextBytes]) -> Result<Vec<u8>, AllocError>
-    ensures { IfOk result (λ key. key.items ≡ rule_key words.now) }
-{
-    let mut read = Vec::new(alloc);
-    let mut rest = words;
-    while let [word, behind @ ..] = rest {
-        read.push(read_word(alloc, word)?)?;
-        rest = behind;
-    }
-    Ok(key_of(alloc, read.as_slice())?)
-}
+use world_meaning::TextBytes;
 
 /// The name of a rule in small letters, if it has one.
 pub fn name_of(alloc: Global, rule: &RuleAt<'_>) -> Result<Option<TextBytes>, AllocError>
@@ -44,7 +19,7 @@ pub fn name_of(alloc: Global, rule: &RuleAt<'_>) -> Result<Option<TextBytes>, Al
 {
     match &rule.rule.name {
         None => Ok(None),
-        Some(words) => Ok(Some(TextBytes::new(rule_key(alloc, words.as_slice())?))),
+        Some(words) => Ok(Some(TextBytes::new(key_of(alloc, words.as_slice())?))),
     }
 }
 

@@ -5,26 +5,16 @@ ghost use Rattle.i7_conditions.specs.Scopes.{scope_of};
 ghost use Rattle.i7_phrases.specs.ChangeForms.{found_simple};
 ghost use Rattle.i7_phrases.specs.Limits.{phrase_is_over};
 ghost use Rattle.i7_phrases.specs.Texts.{found_text};
-ghost use Rattle.i7_rules.specs.Doings.{Does};
-ghost use Rattle.i7_rules.specs.Knowns.{known_of};
-ghost use Rattle.i7_rules.specs.Saying.{closed, closes, ends_sentence, is_end, is_final, prints_close, saying, with_break};
-ghost use Rattle.i7_sentences.specs.declared.spoken.Spoken.TheVariants as spoken;
+ghost use Rattle.i7_rules.specs.Doings.{SaysSo};
+ghost use Rattle.i7_rules.specs.Saying.{closed, closes, ends_sentence, is_end, prints_close, saying, with_break};
 ghost use Rattle.play_meaning.specs.Meant.{text_meant};
 
-use crate::known::Known;
 use i7_conditions::{Found, Scope};
 use i7_phrases::text_of;
-use i7_sentences::TextPiece;
+use i7_sentences::{TextPiece, is_final};
 use play_meaning::tree::{Piece, Said, Simple, Text};
 use std::alloc::{AllocError, Global};
 use world_meaning::TextBytes;
-
-/// Whether a byte is a full stop, a question mark or an exclamation mark.
-fn is_final(byte: u8) -> bool
-    ensures { result ≡ is_final byte }
-{
-    byte == b'.' || byte == b'?' || byte == b'!'
-}
 
 /// Whether nothing is left but perhaps a quote.
 fn is_end(bytes: &[u8]) -> bool
@@ -114,12 +104,11 @@ fn said_so(alloc: Global, is_sentence: bool, text: Found<Text>) -> Result<Found<
 /// `say` with a text of these pieces.
 pub fn said_of(
     alloc: Global,
-    known: &Known<'_>,
     scope: &Scope<'_>,
     pieces: &[TextPiece],
 ) -> Result<Found<Simple>, AllocError>
     requires few { length (scope_of scope.now).repeats ≤ 255 }
-    ensures { IfOk result (λ found. IsFoundAs (Does (known_of known.now) (scope_of scope.now) (spoken.Say pieces.now)) phrase_is_over (found_simple found)) }
+    ensures { IfOk result (λ found. IsFoundAs (SaysSo (scope_of scope.now) pieces.now) phrase_is_over (found_simple found)) }
 {
     let text = text_of(alloc, scope, pieces)?;
     said_so(alloc, ends_sentence(pieces), text)

@@ -4,7 +4,7 @@ ghost use Rattle.i7_conditions.specs.Readings.{IsFoundAs};
 ghost use Rattle.i7_conditions.specs.Scopes.{scope_of};
 ghost use Rattle.i7_phrases.specs.ChangeForms.{found_simple};
 ghost use Rattle.i7_rules.specs.Knowns.{known_of, nearest};
-ghost use Rattle.i7_rules.specs.Lines.{IsDone, States, StatesAmong, done_by, found_stated, is_ninth, is_over, is_over_among, limited};
+ghost use Rattle.i7_rules.specs.Lines.{IsDone, States, StatesAmong, done_by, found_stated, is_beyond, is_ninth, is_over, is_over_among, limited, says_long};
 
 use crate::doing::doing_of;
 use crate::known::Known;
@@ -13,7 +13,7 @@ use i7_phrases::block_of;
 use i7_sentences::{RulePhrase, Spoken};
 use play_meaning::tree::Simple;
 use std::alloc::{AllocError, Global};
-use world_meaning::TextBytes;
+use world_meaning::{MOST_BYTES, TextBytes};
 
 /// The line of a phrase that does this, perhaps with an `instead` behind it.
 fn done_by(is_instead: bool, found: Found<Simple>) -> Found<Step>
@@ -78,7 +78,25 @@ fn is_ninth(names: &[TextBytes], phrase: &RulePhrase) -> bool
     matches!(&phrase.said, Spoken::Repeat { .. }) && names.len() >= 8
 }
 
-/// What means something is too many where it stands in too many repeats.
+/// Whether a phrase says a text of more than 65,535 bytes, as it is written.
+fn says_long(said: &Spoken) -> bool
+    ensures { result ≡ says_long said.now }
+{
+    match said {
+        Spoken::Say { length, .. } => *length > MOST_BYTES,
+        Spoken::EndStory(Some(text)) => text.as_slice().len() > MOST_BYTES,
+        _ => false,
+    }
+}
+
+/// Whether a phrase goes beyond a limit, whatever its words mean.
+fn is_beyond(names: &[TextBytes], phrase: &RulePhrase) -> bool
+    ensures { result ≡ is_beyond names.now phrase.now }
+{
+    is_ninth(names, phrase) || says_long(&phrase.said)
+}
+
+/// What means something is too many where it goes beyond a limit whatever it means.
 fn limited(is_over: bool, found: Found<Step>) -> Found<Step>
     ensures { found_stated result ≡ limited is_over (found_stated found) }
 {
@@ -96,7 +114,8 @@ fn limited(is_over: bool, found: Found<Step>) -> Found<Step>
 }
 
 /// What a phrase is as a line where repeats with these names are open, the outermost first: of more than 255 the innermost are
-/// known. It is too many with an object, a description or a condition beyond the limits, and as a repeat within eight others.
+/// known. It is too many with an object, a description or a condition beyond the limits, as a repeat within eight others, and with a
+/// text of more than 65,535 bytes.
 pub fn step_of(
     alloc: Global,
     known: &Known<'_>,
@@ -110,5 +129,5 @@ pub fn step_of(
         repeats: nearest(names),
     };
     let found = step_in(alloc, known, &scope, phrase)?;
-    Ok(limited(is_ninth(names, phrase), found))
+    Ok(limited(is_beyond(names, phrase), found))
 }

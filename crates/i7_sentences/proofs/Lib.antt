@@ -4,7 +4,6 @@ pub mod Bracketing
 pub mod Choosing
 pub mod Columns
 pub mod Cutting
-pub mod Digits
 pub mod Ends
 pub mod Fitting
 pub mod Hearing

@@ -11,7 +11,7 @@ use Rattle.i7_lexer.specs.declared.token.TokenKind.TheVariants.{Text, Word, Mark
 use Rattle.i7_sentences.specs.ActionDeclarations.{action, action_on_two}
 use Rattle.i7_sentences.specs.Conditions.{are_pieces_read}
 use Rattle.i7_sentences.specs.Keywords.{is_sign}
-use Rattle.i7_sentences.specs.Literals.{literal_of}
+use Rattle.world_meaning.specs.Literals.{literal_of}
 use Rattle.i7_sentences.specs.Names.{joined, name_of, names_from, Words}
 use Rattle.i7_sentences.specs.RuleListings.{listed_first, listed_last, not_listed}
 use Rattle.i7_sentences.specs.SceneChanges.{scene_change}

@@ -3,7 +3,7 @@ use Rattle.std.specs.Prelude.{◌≡◌, ◌<◌, ◌≤◌, ℕ, Bool, not, ◌
 use Rattle.std.specs.Borrow.{Bor}
 use Rattle.std.specs.List.{after_first, before_first, list_any, position_or_len, slice_split}
 use Rattle.i7_lexer.specs.Bytes.{is_letter}
-use Rattle.i7_sentences.specs.Literals.{is_out_of_range}
+use Rattle.world_meaning.specs.Literals.{is_out_of_range}
 
 abbrev pub is_byte : ℕ → ℕ → Bool
 is_byte byte b = b == byte

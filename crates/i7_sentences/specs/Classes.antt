@@ -4,7 +4,7 @@ use Rattle.std.specs.List.{list_all}
 use Rattle.i7_lexer.specs.declared.token.Token.{Token}
 use Rattle.i7_sentences.specs.Words.{word_of, is_word, is_text, direction_named}
 use Rattle.i7_sentences.specs.Keywords.{is_article, is_sign}
-use Rattle.i7_sentences.specs.Literals.{is_literal}
+use Rattle.world_meaning.specs.Literals.{is_literal}
 use Rattle.i7_sentences.specs.declared.keyword.Keyword.TheVariants as keyword
 use Rattle.i7_sentences.specs.declared.class.Class.{Class}
 use Rattle.i7_sentences.specs.declared.class.Class.TheVariants as class

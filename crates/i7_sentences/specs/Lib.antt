@@ -14,7 +14,6 @@ pub mod Found
 pub mod HeadWords
 pub mod Keywords
 pub mod KindsOfValue
-pub mod Literals
 pub mod Lowest
 pub mod Matching
 pub mod Names

@@ -1,5 +1,5 @@
 -- What a phrase says, by the words for the letters of its form.
-use Rattle.std.specs.Prelude.{ℕ, Bool, true, false, List, [], ◌∷◌, Option, Some, None, if◌then◌else◌}
+use Rattle.std.specs.Prelude.{ℕ, Bool, true, false, List, [], ◌∷◌, length, Option, Some, None, if◌then◌else◌}
 use Rattle.i7_lexer.specs.declared.token.Token.{Token}
 use Rattle.i7_lexer.specs.declared.token.TokenKind.{TokenKind}
 use Rattle.i7_lexer.specs.declared.token.TokenKind.TheVariants.{Text, Word, Mark}
@@ -20,18 +20,18 @@ abbrev pub if_read : Option (List TextPiece) → Option (List TextPiece)
 if_read None = None
 if_read (Some pieces) = if are_pieces_read pieces then Some pieces else None
 
--- the pieces of a text that is understood, with the conditions of its ifs
-abbrev pub pieces_said : TokenKind → Option (List TextPiece)
-pieces_said (Text text) = if_read (if is_text_read text then Some (text_pieces text) else None)
-pieces_said (Word word) = None
-pieces_said (Mark mark) = None
+abbrev pub pieces_said : ℕ → Option (List TextPiece) → Option Spoken
+pieces_said bytes None = None
+pieces_said bytes (Some pieces) = Some (spoken.Say pieces bytes)
 
-abbrev pub saying_pieces : Option (List TextPiece) → Option Spoken
-saying_pieces None = None
-saying_pieces (Some pieces) = Some (spoken.Say pieces)
+-- a text that is understood, with the conditions of its ifs, and how long it is written
+abbrev pub text_said : TokenKind → Option Spoken
+text_said (Text text) = pieces_said (length text) (if_read (if is_text_read text then Some (text_pieces text) else None))
+text_said (Word word) = None
+text_said (Mark mark) = None
 
 abbrev pub say_of : List (List Token) → Option Spoken
-say_of ((token ∷ []) ∷ []) = saying_pieces (pieces_said token.kind)
+say_of ((token ∷ []) ∷ []) = text_said token.kind
 say_of _ = None
 
 -- names tell where a change is cut, so that all its words behind the first are kept

@@ -7,7 +7,7 @@ use Rattle.i7_lexer.specs.declared.token.TokenKind.TheVariants.{Text, Word, Mark
 use Rattle.i7_sentences.specs.Bodies.{Phrase, body_lines}
 use Rattle.i7_sentences.specs.BracketedWords.{has_bad_bracket}
 use Rattle.i7_sentences.specs.Cuts.{Piece, line_in}
-use Rattle.i7_sentences.specs.Literals.{is_out_of_range}
+use Rattle.world_meaning.specs.Literals.{is_out_of_range}
 use Rattle.i7_sentences.specs.Lowest.{lowest}
 use Rattle.i7_sentences.specs.Matching.{Found}
 use Rattle.i7_sentences.specs.Names.{Words}

@@ -4,7 +4,7 @@ use Rattle.world_meaning.specs.declared.direction.Direction.{Direction}
 use Rattle.i7_lexer.specs.declared.token.Token.{Token}
 use Rattle.i7_sentences.specs.Words.{word_of, is_word, direction_named}
 use Rattle.i7_sentences.specs.Keywords.{keyword_of}
-use Rattle.i7_sentences.specs.Literals.{is_literal}
+use Rattle.world_meaning.specs.Literals.{is_literal}
 use Rattle.i7_sentences.specs.declared.keyword.Keyword.{Keyword}
 
 pub record IsTagged (token : Token) (keyword : Option Keyword) (direction : Option Direction) (is_number word : Bool) : Type 0 where

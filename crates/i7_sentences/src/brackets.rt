@@ -3,8 +3,8 @@ ghost use Rattle.std.specs.Prelude.{◌≡◌, ◌<◌, ◌≤◌, [], ◌∷◌
 ghost use Rattle.std.specs.List.{after_first, before_first, position_or_len};
 ghost use Rattle.i7_sentences.specs.BracketedWords.{bracketed, has_bad_bracket, has_bad_word, is_byte, is_gap, IsPartedAt};
 
-use crate::literal::is_out_of_range;
 use i7_lexer::is_letter;
+use world_meaning::is_out_of_range;
 
 /// How many bytes stand in front of the first such byte.
 fn place_of(byte: u8, bytes: &[u8]) -> usize

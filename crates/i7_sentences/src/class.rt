@@ -1,14 +1,11 @@
 //! The classes of words that a form's letters stand for: each a small automaton over tokens.
 ghost use Rattle.std.specs.Prelude.{◌≡◌};
-ghost use Rattle.std.specs.List.{list_any};
-ghost use Rattle.world_meaning.specs.Spelling.{is_spelled};
 ghost use Rattle.i7_sentences.specs.Automata.{accepts, alone_step, asked_step, body_step, names_step, run_step, side_start, side_step, step};
 ghost use Rattle.i7_sentences.specs.Classes.{is_body_mark, is_degree, is_head_token, is_inner, is_choice, is_joint, is_name_word, is_vertical};
 
 use crate::Keyword;
 use crate::tagged::Tagged;
 use crate::word::word_of;
-use world_meaning::is_spelled;
 
 /// What a letter stands for.
 #[derive(Clone, Copy, Debug, PartialEq, Eq)]
@@ -97,13 +94,6 @@ fn is_degree(token: &Tagged<'_>) -> bool
     ensures { result ≡ is_degree token.now }
 {
     token.is_sign(Keyword::Visible) || token.is_sign(Keyword::Carried)
-}
-
-/// Whether the word is one of these.
-pub fn is_any(word: &[u8], words: &[&[u8]]) -> bool
-    ensures { result ≡ list_any (λ other. is_spelled word.now other.now) words.now }
-{
-    words.iter().any(|other| is_spelled(word, other))
 }
 
 /// Whether the token is a text, or `or`.

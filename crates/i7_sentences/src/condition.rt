@@ -1,24 +1,31 @@
 //! The shape of a condition, which is asked before any name is looked at.
 ghost use Rattle.std.specs.Prelude.{◌≡◌};
 ghost use Rattle.std.specs.List.{list_any};
+ghost use Rattle.world_meaning.specs.Spelling.{is_spelled};
 ghost use Rattle.i7_sentences.specs.Conditions.{are_pieces_read, inner, is_basic, is_condition, is_of_darkness, is_piece_read, is_verb, parts_conditions};
 
 use crate::TextPiece;
-use crate::class::is_any;
 use crate::word_list::are_spelled;
-use world_meaning::TextBytes;
+use world_meaning::{TextBytes, is_spelled};
 
 /// What joins conditions.
 pub const JOINTS: [&[u8]; 2] = [b"or", b"and"];
 
 /// The verbs of conditions.
-pub const VERBS: [&[u8]; 6] = [b"is", b"are", b"has", b"carries", b"wears", b"encloses"];
+pub const VERBS: [&[u8]; 5] = [b"is", b"has", b"carries", b"wears", b"encloses"];
 
 /// The condition that there is no light.
 pub const IN_DARKNESS: [&[u8]; 2] = [b"in", b"darkness"];
 
 /// The condition that there is light.
 pub const NOT_IN_DARKNESS: [&[u8]; 3] = [b"not", b"in", b"darkness"];
+
+/// Whether the word is one of these.
+fn is_any(word: &[u8], words: &[&[u8]]) -> bool
+    ensures { result ≡ list_any (λ other. is_spelled word.now other.now) words.now }
+{
+    words.iter().any(|other| is_spelled(word, other))
+}
 
 /// Whether the word parts two conditions.
 fn parts_conditions(word: &TextBytes) -> bool

@@ -95,8 +95,8 @@ fn is_unindented(start: Start) -> bool
     }
 }
 
-/// Whether the byte ends a spoken sentence.
-fn is_final(byte: u8) -> bool
+/// Whether the byte ends a spoken sentence: a full stop, a question mark or an exclamation mark.
+pub fn is_final(byte: u8) -> bool
     ensures { result ≡ is_final byte }
 {
     byte == b'.' || byte == b'?' || byte == b'!'

@@ -4,12 +4,11 @@ ghost use Rattle.i7_sentences.specs.Assertions.{describing_text, direction_at, n
 
 use crate::Keyword;
 use crate::describing::{describing, is_plain};
-use crate::literal::literal_of;
 use crate::tagged::Tagged;
 use crate::word::word_of;
 use i7_lexer::TokenKind;
 use std::alloc::{AllocError, Global};
-use world_meaning::{Direction, TextBytes};
+use world_meaning::{Direction, TextBytes, literal_of};
 
 /// The text that a letter is, if it may describe.
 pub(crate) fn describing_text(

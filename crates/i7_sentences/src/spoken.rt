@@ -6,7 +6,8 @@ use world_meaning::TextBytes;
 /// article in front.
 #[derive(Debug, Drop)]
 pub enum Spoken {
-    Say(TextPieces),
+    /// A text that is said, with how many bytes it has as it is written, brackets and all.
+    Say { text: TextPieces, length: usize },
     /// All that stands behind `now`: `now the ball is in the box`, `now Bob carries the ball`. Names tell where it is cut.
     Now(WordList),
     /// All that stands behind `move`: `move the ball to the box`.

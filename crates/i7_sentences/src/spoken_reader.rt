@@ -1,7 +1,7 @@
 //! Reading a phrase: what it says with the words for the letters of its form.
 ghost use Rattle.std.specs.Prelude.{◌≡◌, Some, None, map, option_map, IfOk};
 ghost use Rattle.i7_sentences.specs.Found.{found_in};
-ghost use Rattle.i7_sentences.specs.SpokenPhrases.{decrease_of, end_story_of, ending_with, follow_of, if_condition, if_of, if_read, increase_of, move_of, now_of, otherwise_condition, otherwise_if_of, pieces_said, repeat_of, say_of, saying_pieces, spoken_by, spoken_found, spoken_in, spoken_of, spoken_with, try_of};
+ghost use Rattle.i7_sentences.specs.SpokenPhrases.{decrease_of, end_story_of, ending_with, follow_of, if_condition, if_of, if_read, increase_of, move_of, now_of, otherwise_condition, otherwise_if_of, pieces_said, repeat_of, say_of, text_said, spoken_by, spoken_found, spoken_in, spoken_of, spoken_with, try_of};
 
 use crate::condition::{are_pieces_read, is_condition};
 use crate::letter::plain_text;
@@ -36,22 +36,26 @@ fn if_read(pieces: Option<TextPieces>) -> Option<TextPieces>
     }
 }
 
-/// The pieces of a text that is said.
-fn pieces_said(alloc: Global, token: &PackedToken) -> Result<Option<TextPieces>, AllocError>
-    ensures { IfOk result (λ pieces. pieces ≡ pieces_said token.now.kind) }
-{
-    match token.kind() {
-        TokenKind::Text(text) => Ok(if_read(read_text(alloc, text.as_slice())?)),
-        TokenKind::Word(_) | TokenKind::Mark(_) => Ok(None),
-    }
-}
-
-fn saying_pieces(pieces: Option<TextPieces>) -> Option<Spoken>
-    ensures { result ≡ saying_pieces pieces }
+/// A text of this length that is said, if its pieces are understood.
+fn pieces_said(length: usize, pieces: Option<TextPieces>) -> Option<Spoken>
+    ensures { result ≡ pieces_said length pieces }
 {
     match pieces {
         None => None,
-        Some(pieces) => Some(Spoken::Say(pieces)),
+        Some(text) => Some(Spoken::Say { text, length }),
+    }
+}
+
+/// A text that is said.
+fn text_said(alloc: Global, token: &PackedToken) -> Result<Option<Spoken>, AllocError>
+    ensures { IfOk result (λ said. said ≡ text_said token.now.kind) }
+{
+    match token.kind() {
+        TokenKind::Text(text) => {
+            let pieces = if_read(read_text(alloc, text.as_slice())?);
+            Ok(pieces_said(text.as_slice().len(), pieces))
+        }
+        TokenKind::Word(_) | TokenKind::Mark(_) => Ok(None),
     }
 }
 
@@ -60,7 +64,7 @@ fn say_of(alloc: Global, letters: &[&[Tagged<'_>]]) -> Result<Option<Spoken>, Al
 {
     match letters {
         [letter] => match letter {
-            [token] => Ok(saying_pieces(pieces_said(alloc, token.token())?)),
+            [token] => text_said(alloc, token.token()),
             _ => Ok(None),
         },
         _ => Ok(None),

@@ -7,9 +7,9 @@ ghost use Rattle.i7_sentences.specs.Stretches.{bad_literal_in, holds_bad_literal
 
 use crate::body::PhraseLine;
 use crate::brackets::has_bad_bracket;
-use crate::literal::is_out_of_range;
 use crate::low::lower_of;
 use i7_lexer::{PackedToken, TokenKind};
+use world_meaning::is_out_of_range;
 
 /// Whether a token is a literal out of range, or a text with one between its brackets.
 fn holds_bad_literal(token: &PackedToken) -> bool

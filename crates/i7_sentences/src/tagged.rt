@@ -7,12 +7,11 @@ ghost use Rattle.i7_sentences.specs.Words.{direction_named, is_text, is_word, wo
 
 use crate::Keyword;
 use crate::keyword::{ARTICLES, RESERVED, keyword_of};
-use crate::literal::is_literal;
 use crate::word::{direction_of, is_text, is_word, word_of};
 use i7_lexer::PackedToken;
 use std::alloc::{AllocError, Global};
 use std::marker::Model;
-use world_meaning::Direction;
+use world_meaning::{Direction, is_literal};
 
 /// A token, seen by contracts as the token alone.
 #[derive(Drop)]

@@ -53,32 +53,6 @@ fn new_trees_hold_nothing(rt: HostRuntime) -> Result<(), Fail> {
 }
 
 #[test]
-fn trees_are_made_from_places(rt: HostRuntime) -> Result<(), Fail> {
-    let alloc = rt.alloc();
-    let shelf = ObjNo::new(1);
-    let places = [
-        Some(Place {
-            relation: Rel::On,
-            holder: shelf,
-        }),
-        None,
-        Some(Place {
-            relation: Rel::In,
-            holder: shelf,
-        }),
-    ];
-    let tree = Tree::from_places(alloc, &places)?;
-    assert_eq!(rt; tree.holder(ObjNo::new(0)), held(Rel::On, shelf));
-    assert_eq!(rt; tree.holder(shelf), None);
-    assert_eq!(rt; tree.holder(ObjNo::new(2)), held(Rel::In, shelf));
-    assert_eq!(rt;
-        children(alloc, &tree, shelf)?.as_slice(),
-        [ObjNo::new(0), ObjNo::new(2)].as_slice()
-    );
-    Ok(())
-}
-
-#[test]
 fn things_are_where_they_were_put(rt: HostRuntime) -> Result<(), Fail> {
     let tree = furnished(rt.alloc())?;
     assert_eq!(rt; tree.holder(bag()), held(Rel::In, room()));

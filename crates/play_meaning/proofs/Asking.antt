@@ -16,7 +16,8 @@ use Rattle.play_meaning.specs.Settings.{Setting, objects_of}
 use Rattle.play_meaning.specs.Translation.{test_code}
 use Rattle.play_meaning.specs.Trees.{Description}
 use Rattle.play_meaning.specs.Truth.{of_some}
-use Rattle.play_meaning.specs.Values.{is_one, is_place, relation_number, those}
+use Rattle.play_meaning.specs.Values.{is_one, is_place, those}
+use Rattle.world_meaning.specs.Relations.{relation_number}
 use Rattle.play_meaning.specs.Worlds.{World}
 use Rattle.play_meaning.proofs.Standing.{HasAt}
 use Rattle.play_meaning.proofs.Straight.{Gives, St, alike, one_leads, open_loops, scope_in, step_of, test_answers, then_also}

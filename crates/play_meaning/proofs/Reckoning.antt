@@ -15,7 +15,7 @@ use Rattle.play_meaning.specs.Scoping.{ConditionIsWithin, NumberIsWithin}
 use Rattle.play_meaning.specs.Seeing.{encloses, is_same}
 use Rattle.play_meaning.specs.Translation.{condition_part, description_code, number_part, object_code, one, seq}
 use Rattle.play_meaning.specs.Trees as tree
-use Rattle.play_meaning.specs.Trees.{Condition, Description, Number, Object}
+use Rattle.play_meaning.specs.Trees.{Condition, Description, Number}
 use Rattle.play_meaning.specs.Truth.{has_thing, of_both, of_some, truth_in}
 use Rattle.play_meaning.specs.Values.{in_range, is_held, is_one, number_at, number_in, those}
 use Rattle.play_meaning.specs.Worlds.{World, place_of, variable_of}

@@ -6,7 +6,8 @@ use Rattle.play_meaning.specs.Seeing.{encloses}
 use Rattle.play_meaning.specs.Settings.{Setting, door_kind, fixed_in_place_flag, objects_of, person_kind, scenery_flag, thing_kind}
 use Rattle.play_meaning.specs.StandardActions.{taking}
 use Rattle.play_meaning.specs.Trees.{Adjective, First, NotSo, Quality, Second, Visible}
-use Rattle.play_meaning.specs.Values.{is_among, is_held, relation_number}
+use Rattle.play_meaning.specs.Values.{is_among, is_held}
+use Rattle.world_meaning.specs.Relations.{relation_number}
 use Rattle.play_meaning.specs.Worlds.{World, place_of}
 
 -- `visible portable not scenery`

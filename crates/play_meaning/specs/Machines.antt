@@ -13,7 +13,8 @@ use Rattle.play_meaning.specs.Seeing.{encloses, has_light, is_touchable, is_visi
 use Rattle.play_meaning.specs.Settings.{Setting, objects_of}
 use Rattle.play_meaning.specs.Trees.{First, NotSo, Quality, Second as SecondName, Valued as ValuedSo}
 use Rattle.play_meaning.specs.Truth.{of_both, of_some}
-use Rattle.play_meaning.specs.Values.{beyond, in_range, is_held, is_so, number_at, relation_number, value_at}
+use Rattle.play_meaning.specs.Values.{beyond, in_range, is_held, is_so, number_at, value_at}
+use Rattle.world_meaning.specs.Relations.{relation_number}
 use Rattle.play_meaning.specs.Worlds.{World, end_with, location_of, place_of, scene_of, set_variable, variable_of}
 use Rattle.world_meaning.specs.declared.place.Place.{Place}
 use Rattle.world_meaning.specs.declared.place.Rel.{Rel}

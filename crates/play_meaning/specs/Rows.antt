@@ -50,7 +50,8 @@ abbrev pub in_hall : List Item → List Rule → Sketch
 in_hall items rules = with_rules (bright (codes "Hall") ∷ items) (standard_rules ++ rules)
 
 abbrev pub rule_of : ℕ → Option ℕ → Aspect → Aspect → Option Condition → Body → Rule
-rule_of book action noun place condition body = record { book = book; action = action; noun = noun; second = Anything; place = place; scene = None; condition = condition; body = body; listed = InOrder }
+rule_of book action noun place condition body =
+    record { book = book; action = action; noun = noun; second = Anything; place = place; scene = None; condition = condition; body = body; listed = InOrder }
 
 abbrev pub say_and_go_on : List ℕ → Body
 say_and_go_on text = Then (Say (line text)) (only (Leave NoDecision))

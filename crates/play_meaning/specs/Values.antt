@@ -1,9 +1,9 @@
 -- What objects, descriptions and numbers are, in a world, an action and the open repeats.
+use Rattle.world_meaning.specs.Relations.{relation_number}
 use Rattle.std.specs.Prelude.{ℕ, ℤ, ◌+ℤ◌, ◌-ℤ◌, ◌*ℤ◌, pos, negsuc, nat_lt, Bool, true, false, not, ◌&&◌, ◌==◌, List, [], length, filter, slice_get, slice_index_or, Option, None, Some, Ok, Err, if◌then◌else◌}
 use Rattle.std.specs.List.{list_all}
 use Rattle.world_meaning.specs.declared.place.Place.{Place}
 use Rattle.world_meaning.specs.declared.place.Rel.{Rel}
-use Rattle.world_meaning.specs.declared.place.Rel.TheVariants.{In, On, Carried, Worn, Part}
 use Rattle.world_meaning.specs.declared.session.Abandon.TheVariants.{NumberOutOfRange}
 use Rattle.play_meaning.specs.Attempts.{Attempt, next}
 use Rattle.play_meaning.specs.Seeing.{is_touchable, is_visible}
@@ -76,13 +76,6 @@ is_of_kind s (Some kind) o = s.is_of o kind
 
 abbrev pub is_among : Setting → World → List Adjective → Option ℕ → ℕ → Bool
 is_among s w adjectives kind o = is_of_kind s kind o && list_all (λ adjective. is_so s w adjective o) adjectives
-
-abbrev pub relation_number : Rel → ℕ
-relation_number In = 0
-relation_number On = 1
-relation_number Carried = 2
-relation_number Worn = 3
-relation_number Part = 4
 
 abbrev pub is_place : Rel → ℕ → Option Place → Bool
 is_place relation holder None = false

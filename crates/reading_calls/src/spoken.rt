@@ -39,7 +39,7 @@ fn try_name(is_silent: bool) -> &'static [u8] {
 /// Adds what a phrase says.
 pub fn add_spoken(out: &mut Vec<u8>, said: &Spoken) -> Result<(), AllocError> {
     match said {
-        Spoken::Say(pieces) => add_pieces(out, pieces.as_slice()),
+        Spoken::Say { text, .. } => add_pieces(out, text.as_slice()),
         Spoken::Now(words) => add_one(out, b"now", words),
         Spoken::Move(words) => add_one(out, b"move", words),
         Spoken::Increase { value, amount } => add_two(out, b"increase", value, amount),

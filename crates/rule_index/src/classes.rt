@@ -1,9 +1,9 @@
 //! The classes of a book's rules: for each action the places of those that name no action or that one.
-ghost use Rattle.std.specs.Prelude.{◌≡◌, ◌≤◌, ◌++◌, [], ◌∷◌, IfOk, IfSome, OnOk, length, slice_get};
+ghost use Rattle.std.specs.Prelude.{◌≡◌, ◌≤◌, ◌++◌, [], ◌∷◌, IfOk, OnOk, length, slice_get};
 ghost use Rattle.std.specs.List.{list_any};
 ghost use Rattle.std.specs.Option.{option_map};
 ghost use Rattle.story_format.specs.Facts.{rules_listed};
-ghost use Rattle.rule_index.specs.Classes.{AreClasses, class_of, places_where, rule_has, rule_suits};
+ghost use Rattle.rule_index.specs.Classes.{AreClasses, places_where, rule_has, rule_suits};
 
 use crate::admitting::{has_action, suits};
 use std::alloc::{AllocError, Global};

@@ -1,5 +1,5 @@
 //! Where sentences list rules, by the rules' names; of several sentences about one rule the latest counts.
-use i7_rules::rule_key;
+use i7_conditions::key_of;
 use i7_sentences::{Assertion, ListedIn, RuleListing, Sentence};
 use std::alloc::{AllocError, Global};
 
@@ -23,7 +23,7 @@ fn place_told(place: &ListedIn) -> Option<&'static str> {
 
 fn placing_of(alloc: Global, listing: &RuleListing) -> Result<Placing, AllocError> {
     Ok(Placing {
-        name: rule_key(alloc, listing.rule.as_slice())?,
+        name: key_of(alloc, listing.rule.as_slice())?,
         told: place_told(&listing.place),
     })
 }

@@ -1,6 +1,5 @@
 //! Rulebooks, each with its rules in the order in which they are asked.
-ghost use Rattle.std.specs.Prelude.{◌≡◌, ◌≤◌, length, map, IfOk};
-ghost use Rattle.std.specs.List.{range_with_len};
+ghost use Rattle.std.specs.Prelude.{◌≡◌, ◌≤◌, length, IfOk};
 ghost use Rattle.rule_order.specs.Books.{AreBooksOf, book_in};
 ghost use Rattle.rule_order.specs.Entries.{books_from, count_of, numbers_of};
 

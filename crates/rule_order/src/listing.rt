@@ -1,8 +1,7 @@
 //! Where the sentences of a source list its rules (*Writing with Inform*, 19.16): of each rule the latest counts.
-ghost use Rattle.std.specs.Prelude.{◌≡◌, ◌+◌, ◌≤◌, length, replicate, slice_get, IfOk};
-ghost use Rattle.std.specs.List.{slice_set};
+ghost use Rattle.std.specs.Prelude.{◌≡◌, IfOk};
 ghost use Rattle.play_meaning.specs.declared.tree.pattern.Listing.TheVariants.{InOrder};
-ghost use Rattle.rule_order.specs.Listings.{AreListings, listed_after, listing_by, listings_after};
+ghost use Rattle.rule_order.specs.Listings.{AreListings, listed_after, listing_by};
 
 use play_meaning::tree::Listing;
 use std::alloc::{AllocError, Global};

@@ -6,7 +6,7 @@ use Rattle.std.specs.Int.{w16, w32, cast_signed, cast_unsigned, from_be_bytes, t
 use Rattle.std.specs.Option.{option_map}
 use Rattle.world_meaning.specs.declared.place.Rel.{Rel}
 use Rattle.play_meaning.specs.Instructions.{Argument, Integer, opcode, row_of, size_of, widths}
-use Rattle.play_meaning.specs.Values.{relation_number}
+use Rattle.world_meaning.specs.Relations.{relation_number}
 use Rattle.play_meaning.specs.declared.instruction.Asked.{Asked}
 use Rattle.play_meaning.specs.declared.instruction.Instruction.{Instruction}
 use Rattle.play_meaning.specs.declared.instruction.Instruction.TheVariants.{Count, Flag, Name, Names, Next, Num, SetFlag, Try}

@@ -4,7 +4,7 @@ use Rattle.std.proofs.lemmas.Bool.{and_from}
 use Rattle.play_meaning.specs.Instructions.{size_of, sizes}
 use Rattle.play_meaning.specs.Translation.{adjective_code, condition_part, description_code, held_code, number_part, object_code, one, seq, test_code, testing, these}
 use Rattle.play_meaning.specs.Trees as tree
-use Rattle.play_meaning.specs.Trees.{Adjective, Body, Condition, Description, Number, Object, Phrase, Text}
+use Rattle.play_meaning.specs.Trees.{Condition, Description, Number, Object}
 use Rattle.play_meaning.specs.declared.instruction.Instruction.{Instruction}
 use Rattle.play_meaning.specs.declared.instruction.Instruction.TheVariants as i
 use Rattle.play_meaning.specs.declared.operand.Counts.{Counts}

@@ -4,7 +4,7 @@ use Rattle.std.proofs.lemmas.Bool.{and_from}
 use Rattle.play_meaning.specs.Instructions.{size_of}
 use Rattle.play_meaning.specs.Translation.{Part, body_part, choice, condition_part, leave_part, loop, nothing, number_part, object_code, one, phrase_part, seq, strings_of_body, strings_of_phrase, strings_of_text, test_code, testing, text_part, these}
 use Rattle.play_meaning.specs.Trees as tree
-use Rattle.play_meaning.specs.Trees.{Adjective, Body, Condition, Description, Number, Object, Phrase, Text}
+use Rattle.play_meaning.specs.Trees.{Body, Condition, Description, Number, Object, Phrase, Text}
 use Rattle.play_meaning.specs.declared.instruction.Instruction.{Instruction}
 use Rattle.play_meaning.specs.declared.instruction.Instruction.TheVariants as i
 use Rattle.play_meaning.specs.declared.naming.Naming.{Naming}

@@ -7,7 +7,7 @@ use Rattle.play_meaning.specs.Operands.{behind_eq, below, is_from_to, is_object,
 use Rattle.play_meaning.specs.SoundCodes.{loops_around, way_of}
 use Rattle.play_meaning.specs.Translation.{Emitted, Part, adjective_code, adjectives_code, and_code, description_code, is_there_code, kind_code, object_code, one, seq, these}
 use Rattle.play_meaning.specs.Trees as tree
-use Rattle.play_meaning.specs.Trees.{Adjective, Description, Side}
+use Rattle.play_meaning.specs.Trees.{Adjective, Description}
 use Rattle.play_meaning.specs.declared.instruction.Instruction.{Instruction}
 use Rattle.play_meaning.specs.declared.instruction.Instruction.TheVariants as i
 use Rattle.play_meaning.specs.declared.operand.Counts.{Counts}

@@ -7,7 +7,7 @@ use Rattle.play_meaning.specs.Operands.{below, may_hold, names_what_is_there, op
 use Rattle.play_meaning.specs.SoundCodes.{loops_around, way_of}
 use Rattle.play_meaning.specs.Translation.{Part, body_part, condition_part, leave_part, loop, number_part, object_code, one, phrase_part, seq, test_code, these}
 use Rattle.play_meaning.specs.Trees as tree
-use Rattle.play_meaning.specs.Trees.{Description, Phrase, Text}
+use Rattle.play_meaning.specs.Trees.{Description, Phrase}
 use Rattle.play_meaning.specs.declared.instruction.Instruction.{Instruction}
 use Rattle.play_meaning.specs.declared.instruction.Instruction.TheVariants as i
 use Rattle.play_meaning.specs.declared.operand.Counts.{Counts}

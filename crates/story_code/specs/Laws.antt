@@ -33,7 +33,8 @@ RunsBeginStanding = (judged : List Judged) (number work : ℕ) (j : Judged) → 
 
 -- a run of a body stands at its beginning
 abbrev pub BodiesBeginStanding : Type 0
-BodiesBeginStanding = (judged : List Judged) (number work : ℕ) → AreSoundTogether judged → IsBody judged number → MayDo judged (record { code = number; place = 0; operands = []; loops = []; work = work })
+BodiesBeginStanding = (judged : List Judged) (number work : ℕ) → AreSoundTogether judged → IsBody judged number
+    → MayDo judged (record { code = number; place = 0; operands = []; loops = []; work = work })
 
 -- it stands whatever work was done
 abbrev pub RunsStandBehindAnyWork : Type 0

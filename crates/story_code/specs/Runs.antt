@@ -201,7 +201,8 @@ PassingAre fixed judged now w loops test answer =
 abbrev pub NextIs : Fixed → List Judged → ActionNow → World → List (Option ℕ) → ℕ → ℕ → Attempt (Option ℕ) → Type 0
 NextIs fixed judged now w loops k test answer =
     (depth : ℕ) (describes : Describes) → length judged ≤ test + depth
-    → first_passing (passes_in fixed judged now w depth describes test (take k loops)) (fixed.setting.count - number_behind (slice_index_or loops k None)) (number_behind (slice_index_or loops k None)) ≡ answer
+    → first_passing (passes_in fixed judged now w depth describes test (take k loops))
+    (fixed.setting.count - number_behind (slice_index_or loops k None)) (number_behind (slice_index_or loops k None)) ≡ answer
 
 -- what an instruction says of the open loops: its test is one inside them, and there is room for the one that it opens
 abbrev pub LoopsSuit : List Judged → Standing → Instruction → Type 0

@@ -8,7 +8,7 @@ use Rattle.play_meaning.specs.declared.instruction.Asked.TheVariants.{IsFirst, I
 use Rattle.play_meaning.specs.declared.instruction.Instruction.{Instruction}
 use Rattle.play_meaning.specs.declared.naming.Naming.{Naming}
 use Rattle.play_meaning.specs.declared.naming.Naming.TheVariants.{CapitalDefinite, CapitalIndefinite, Definite, Indefinite, Plain}
-use Rattle.play_meaning.specs.Values.{relation_number}
+use Rattle.world_meaning.specs.Relations.{relation_number}
 
 abbrev pub side_number : Asked → ℕ
 side_number IsSecond = 0

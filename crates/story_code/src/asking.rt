@@ -5,15 +5,15 @@ ghost use Rattle.play_meaning.specs.Machines.{holder_by, is_asked, truth_number}
 ghost use Rattle.play_meaning.specs.Seeing.{encloses};
 ghost use Rattle.play_meaning.specs.Settings.{direction_kind, room_kind};
 ghost use Rattle.play_meaning.specs.Truth.{of_both, of_some};
-ghost use Rattle.play_meaning.specs.Values.{beyond, has_value, is_held, number_at, relation_number};
+ghost use Rattle.play_meaning.specs.Values.{beyond, has_value, is_held, number_at};
+ghost use Rattle.world_meaning.specs.Relations.{relation_number};
 ghost use Rattle.play_meaning.specs.Worlds.{location_of};
 ghost use Rattle.story_code.specs.Asking.{beyond_in, calculated, holds_of, known, object_known, of_numbers, of_objects};
 
-use crate::encoding::relation_number;
 use crate::number::{is_true, truth_number};
 use crate::turning::Turning;
 use play_meaning::{ActionNow, Asked, Ground, Instruction};
-use world_meaning::{KindNo, ObjNo, Rel};
+use world_meaning::{KindNo, ObjNo, Rel, relation_number};
 
 /// A number or a truth, of no operand.
 #[inline(always)]

@@ -1,7 +1,7 @@
 //! What is known behind an instruction.
 ghost use Rattle.std.specs.Prelude.{◌≡◌, ◌+◌, ◌<◌, ◌≤◌, ◌^◌, length};
 ghost use Rattle.play_meaning.specs.Instructions.{size_of};
-ghost use Rattle.play_meaning.specs.SoundCodes.{bare, loops_around, way_of};
+ghost use Rattle.play_meaning.specs.SoundCodes.{bare, loops_around};
 ghost use Rattle.play_meaning.specs.declared.way.Way.TheVariants.{Opens};
 ghost use Rattle.story_code.specs.Passes.{answers, behind, closed_at, ends_well, if_so, is_allowed, leapt, next_list, opened_at, opened_by, stands_at, way_behind};
 

@@ -25,8 +25,8 @@ use play_meaning::{ActNo, ActionNow, Ground, GroundMut, Instruction};
 use std::alloc::Global;
 use world_meaning::Abandon;
 
-/// The most work of a line or of the opening.
-const MOST_WORK: u32 = 10_000;
+/// The most work of a command or of the opening.
+pub const MOST_WORK: u32 = 10_000;
 
 /// Does an instruction that changes the world, or reads it, or says something.
 #[tactic(auto, unfolding(play_meaning::specs::Machines::does))]

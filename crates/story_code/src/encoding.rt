@@ -1,27 +1,13 @@
 //! The bytes of codes.
 ghost use Rattle.std.specs.Prelude.{◌≡◌, ◌++◌, IfOk, OnOk, true};
-ghost use Rattle.std.specs.List.{list_all};
 ghost use Rattle.play_meaning.specs.Instructions.{row_of};
-ghost use Rattle.play_meaning.specs.Values.{relation_number};
-ghost use Rattle.story_code.specs.Spelling.{Spells, arguments_bytes, can_spell, choice_number, form_number, side_number, spelled, spelling};
+ghost use Rattle.world_meaning.specs.Relations.{relation_number};
+ghost use Rattle.story_code.specs.Spelling.{Spells, arguments_bytes, can_spell, choice_number, form_number, side_number, spelled};
 
 use crate::row::opcode;
 use play_meaning::{Asked, Instruction, Naming};
 use std::alloc::{AllocError, Global};
-use world_meaning::Rel;
-
-/// The number of a relation.
-pub(crate) fn relation_number(relation: Rel) -> u8
-    ensures { result ≡ relation_number relation }
-{
-    match relation {
-        Rel::In => 0,
-        Rel::On => 1,
-        Rel::Carried => 2,
-        Rel::Worn => 3,
-        Rel::Part => 4,
-    }
-}
+use world_meaning::relation_number;
 
 /// The number of how a property is asked.
 fn side_number(asked: Asked) -> u8

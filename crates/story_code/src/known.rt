@@ -2,15 +2,11 @@
 ghost use Rattle.std.specs.Prelude.{◌≡◌, ◌<◌, ◌≤◌, [], ◌∷◌, None, Some, MatchOption, length, nat_lt, if◌then◌else◌};
 ghost use Rattle.story_code.specs.Passes.{if_so, innermost, is_nil};
 
+use crate::operands::MOST_OPERANDS;
+use crate::turning::MOST_LOOPS;
 use arrayvec::ArrayVec;
 use play_meaning::{OpenLoop, Sort};
 use std::marker::Model;
-
-/// The most operands that may stand.
-const MOST_OPERANDS: usize = 64;
-
-/// The most loops that may be open.
-const MOST_LOOPS: usize = 9;
 
 /// The sorts of the operands.
 #[derive(Drop)]

@@ -1,5 +1,5 @@
 //! Names of objects as they are told: with an article or without, alone or in a list.
-ghost use Rattle.std.specs.Prelude.{◌≡◌, ◌++◌, List, ℕ, Err, OnOk, OnErr};
+ghost use Rattle.std.specs.Prelude.{◌≡◌, ◌++◌, Err, OnOk, OnErr};
 ghost use Rattle.std.specs.Fmt.{signed_decimal};
 ghost use Rattle.play_meaning.specs.Saying.{article_of, joint, listed, listed_on, name_in, named, value_name};
 ghost use Rattle.play_meaning.specs.Values.{value_at};

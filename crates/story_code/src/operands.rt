@@ -5,7 +5,7 @@ use arrayvec::ArrayVec;
 use std::marker::Model;
 
 /// The most operands that may stand.
-const MOST_OPERANDS: usize = 64;
+pub(crate) const MOST_OPERANDS: usize = 64;
 
 /// The operands, the last pushed first.
 #[derive(Debug, Drop)]

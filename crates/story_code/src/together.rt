@@ -1,6 +1,5 @@
 //! Whether a story's codes are sound together, and whether its objects are described by descriptions.
 ghost use Rattle.std.specs.Prelude.{◌≡◌, ◌↔◌, ℕ, IsTrue, Some, slice_get};
-ghost use Rattle.std.specs.Option.{option_map};
 ghost use Rattle.story_code.specs.Fronts.{code_in};
 ghost use Rattle.story_code.specs.Runs.{AreDescribedBy, AreSoundTogether, IsBody, IsDescription, IsOneOf};
 ghost use Rattle.story_code.specs.Soundness.{Judged};

@@ -6,7 +6,7 @@ use std::marker::Model;
 use world_meaning::ObjNo;
 
 /// The most loops that may be open: eight, and the one of a test.
-const MOST_LOOPS: usize = 9;
+pub(crate) const MOST_LOOPS: usize = 9;
 
 /// The objects of the open loops, the outermost first; none before a loop's first turn.
 #[derive(Debug, Drop)]

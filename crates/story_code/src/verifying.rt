@@ -1,5 +1,5 @@
 //! Whether a code is sound: two walks over its bytes.
-ghost use Rattle.std.specs.Prelude.{◌≡◌, ◌↔◌, ◌&&◌, ◌+◌, ◌<◌, ◌≤◌, ◌^◌, [], ◌∷◌, IsTrue, Some, length, replicate, slice_index, slice_set};
+ghost use Rattle.std.specs.Prelude.{◌≡◌, ◌↔◌, ◌&&◌, ◌+◌, ◌<◌, ◌≤◌, ◌^◌, [], IsTrue, Some, length, slice_index};
 ghost use Rattle.play_meaning.specs.SoundCodes.{bare};
 ghost use Rattle.story_code.specs.Fronts.{code_in};
 ghost use Rattle.story_code.specs.Passes.{if_so, is_nil};

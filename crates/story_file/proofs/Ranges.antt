@@ -19,7 +19,7 @@ use Rattle.i7_sentences.specs.Cuts.{Piece, line_in, parts_of}
 use Rattle.i7_sentences.specs.Forms.{Variant}
 use Rattle.i7_sentences.specs.Keywords.{is_sign}
 use Rattle.i7_sentences.specs.KindsOfValue.{kinds_of_value}
-use Rattle.i7_sentences.specs.Literals.{digits_of, is_negative, literal_of, magnitude}
+use Rattle.world_meaning.specs.Literals.{digits_of, is_negative, literal_of, magnitude}
 use Rattle.i7_sentences.specs.Lowest.{lower_of}
 use Rattle.i7_sentences.specs.Names.{Words, named_in, words_in}
 use Rattle.i7_sentences.specs.Read.{named_heard, plain_heard}

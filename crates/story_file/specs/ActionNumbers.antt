@@ -31,4 +31,5 @@ StandardNamesAgree = map (λ action. name_known action.number) names_in_play ≡
 
 -- of sentences that mean a tale each action has as many nouns as that of its number in table 8 asks for
 abbrev pub NounsAgree : Type 0
-NounsAgree = (sentences : List Sentence) (tale : Tale) → tale_said sentences ≡ Ok tale → map (λ action. action.nouns) (actions_in sentences) ≡ map count_needed (standard_needs ++ tale.declared.actions)
+NounsAgree = (sentences : List Sentence) (tale : Tale) → tale_said sentences ≡ Ok tale
+    → map (λ action. action.nouns) (actions_in sentences) ≡ map count_needed (standard_needs ++ tale.declared.actions)

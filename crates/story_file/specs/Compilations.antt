@@ -21,7 +21,6 @@ use Rattle.story_format.specs.Spells.{Spells}
 use Rattle.story_format.specs.TaleScripts.{whole_script}
 use Rattle.story_format.specs.declared.tables.Tables.{Tables}
 use Rattle.story_file.specs.Lines.{line_of_description, line_in, line_of_rule, scene_lines}
-use Rattle.story_file.specs.LongStrings.{line_of_long_string}
 use Rattle.story_file.specs.Meanings.{AreMeant, AreRefused, scope_said}
 
 -- the game of a tale of which this is said: with the rules that every story has
@@ -66,13 +65,13 @@ pub record IsUnmeant (source : List ℕ) (fault : Fault) : Type 0 where
   pub refused : AreRefused sentences fault
 
 -- how it is told that no story file says this of a tale: at the line of the first description whose code is too long, or else of
--- the first such rule, or else of the first sentence that says on what the first such scene begins or ends; and at the line of the first phrase that says a string of over 65,535 bytes, or at line 1 where none does and
--- there are too many codes or strings
+-- the first such rule, or else of the first sentence that says on what the first such scene begins or ends; and at line 1 where there
+-- are too many codes or strings
 abbrev pub IsToldAs : List Sentence → Tale → TableFault → Fault → Type 0
 IsToldAs sentences tale (LongText number) fault = fault ≡ record { code = TooManyCode; line = line_of_description sentences tale.objects number }
 IsToldAs sentences tale (LongRule number) fault = fault ≡ record { code = TooManyCode; line = line_of_rule sentences number }
 IsToldAs sentences tale (LongScene number) fault = fault ≡ record { code = TooManyCode; line = line_in (slice_get (scene_lines (scope_said sentences) sentences (length tale.declared.scenes)) number) }
-IsToldAs sentences tale TooMany fault = fault ≡ record { code = TooManyCode; line = line_of_long_string sentences }
+IsToldAs sentences tale TooMany fault = fault ≡ record { code = TooManyCode; line = 1 }
 IsToldAs sentences tale Memory fault = ⊥
 
 -- A source means a tale of which no story file says what is said of it.

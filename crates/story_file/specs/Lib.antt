@@ -1,7 +1,6 @@
 pub mod ActionNumbers
 pub mod Compilations
 pub mod Lines
-pub mod LongStrings
 pub mod Rules
 pub mod Meanings
 pub mod Texts

@@ -7,7 +7,6 @@ ghost use Rattle.story_file.specs.Meanings.{scope_said};
 ghost use Rattle.world_meaning.specs.Faults.{out_of_memory};
 
 use crate::lines::{line_in, line_of_description, line_of_rule};
-use crate::long_strings::line_of_long_string;
 use crate::meaning::tale_meant;
 use code_table::TableFault;
 use i7_lexer::lex;
@@ -47,7 +46,7 @@ fn fault_told(sentences: &[Sentence], tale: &Tale, lines: &[u32], fault: TableFa
         },
         TableFault::TooMany => Fault {
             code: FaultCode::TooMany,
-            line: line_of_long_string(sentences),
+            line: 1,
         },
         TableFault::Memory => Fault::OUT_OF_MEMORY,
     }

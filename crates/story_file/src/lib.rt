@@ -4,7 +4,6 @@
 mod compiler;
 mod laws;
 mod lines;
-mod long_strings;
 mod meaning;
 mod rules;
 mod texts;

@@ -13,7 +13,8 @@ use Rattle.world_meaning.specs.WellMade.{has_right_exits, kinds_of, places_of}
 use Rattle.world_meaning.specs.declared.sorts.Sorts.{Sorts}
 use Rattle.world_meaning.specs.declared.tale.Object.{Object}
 use Rattle.command_grammar.specs.declared.synonym.Synonym.{Synonym}
-use Rattle.story_format.specs.Making.{Worded, worded_from, code_count, relation_number, place_relation, place_holder, entry_of, entries_of, ways_of}
+use Rattle.story_format.specs.Making.{Worded, worded_from, code_count, place_relation, place_holder, entry_of, entries_of, ways_of}
+use Rattle.world_meaning.specs.Relations.{relation_number}
 use Rattle.story_format.specs.Placed.{held_by, is_room_entry, kinds_in, places_in, relation_of}
 
 -- the objects without their words

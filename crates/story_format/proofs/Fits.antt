@@ -34,7 +34,8 @@ use Rattle.object_words.proofs.StringLemmas.{length_mapped}
 use Rattle.story_format.specs.Formats.{fits_optional}
 use Rattle.story_format.specs.declared.rule_tables.Book.{Book}
 use Rattle.story_format.specs.Layout.{entry_layout, way_layout, exits_layout, first_layout, tables_layout, version_of}
-use Rattle.story_format.specs.Making.{Worded, worded, worded_from, code_bytes, code_count, described_in, numbers_of, entry_strings, strings_behind, strings_of, article_number, relation_number, place_relation, place_holder, code_number, entry_of, entries_of, line_entry, line_strings, texts_named, ways_of, tables_with, values_of}
+use Rattle.story_format.specs.Making.{Worded, worded, worded_from, code_bytes, code_count, described_in, numbers_of, entry_strings, strings_behind, strings_of, article_number, place_relation, place_holder, code_number, entry_of, entries_of, line_entry, line_strings, texts_named, ways_of, tables_with, values_of}
+use Rattle.world_meaning.specs.Relations.{relation_number}
 use Rattle.story_format.specs.Holding.{is_line_of, is_of, named_by, has_few_words, has_short_texts, is_short, is_short_or_none}
 use Rattle.story_format.proofs.StoryLemmas.{all_both, all_mapped, all_weaker, few_begin, three}
 use Rattle.story_format.proofs.Known.{all_named_small, named_small}

@@ -33,7 +33,8 @@ use Rattle.object_words.proofs.StringLemmas.{length_mapped}
 use Rattle.story_format.specs.declared.rule_tables.Book.{Book}
 use Rattle.story_format.specs.declared.tables.Entry.{Entry}
 use Rattle.story_format.specs.declared.tables.Tables.{Tables}
-use Rattle.story_format.specs.Making.{Worded, worded, code_bytes, code_count, described_in, entry_strings, strings_behind, strings_of, article_number, relation_number, place_relation, place_holder, entry_of, entries_of, line_entry, line_strings, texts_named, ways_of, tables_with, values_of, world_of}
+use Rattle.story_format.specs.Making.{Worded, worded, code_bytes, code_count, described_in, entry_strings, strings_behind, strings_of, article_number, place_relation, place_holder, entry_of, entries_of, line_entry, line_strings, texts_named, ways_of, tables_with, values_of, world_of}
+use Rattle.world_meaning.specs.Relations.{relation_number}
 use Rattle.story_format.specs.Counts.{counts_of}
 use Rattle.story_format.specs.RuleChecks.{are_right_rules}
 use Rattle.story_format.specs.ValueChecks.{are_right_values}

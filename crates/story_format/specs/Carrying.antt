@@ -128,7 +128,8 @@ pub record Carries (tables : Tables) (tale : Tale) (said : Contents) : Type 0 wh
   pub words : (o : ℕ) → words_of tables o ≡ words_told said.synonyms tale o
   pub described : (o : ℕ) → is_some (description_code_of tables o) ≡ is_some (told_description tale o)
   -- whatever the setting, the action and the world are
-  pub descriptions : (o : ℕ) (s : Setting) (now : ActionNow) (w : World) → said_by_code (codes_told tables) s now w (description_code_of tables o) ≡ says (undescribed s) now w (text_of tale said.texts o)
+  pub descriptions : (o : ℕ) (s : Setting) (now : ActionNow) (w : World)
+      → said_by_code (codes_told tables) s now w (description_code_of tables o) ≡ says (undescribed s) now w (text_of tale said.texts o)
   pub ways : (o direction : ℕ) → way_of tables o direction ≡ told_way tale o direction
   pub start : start_of tables ≡ told_start tale
   -- the sixteen, and behind them the author's

@@ -107,7 +107,8 @@ heads_named t = codes_named t.objects ++ codes_in_tables t.rules
 -- the objects are those of a story, and named in order
 unfoldable pub are_right_objects : Tables → Bool
 are_right_objects t =
-    list_all (is_right_entry (sizes_of t)) t.objects && are_in_place t.strings t.world.kinds (sorts_in t).rooms t.objects && have_words t.strings 0 t.objects && list_all (has_small_words (map is_small t.strings)) t.objects
+    list_all (is_right_entry (sizes_of t)) t.objects && are_in_place t.strings t.world.kinds (sorts_in t).rooms t.objects
+    && have_words t.strings 0 t.objects && list_all (has_small_words (map is_small t.strings)) t.objects
     && are_named_in_order 0 (strings_in_tables t) && are_named_in_order 0 (heads_named t) && list_all (suits_kind t.world) t.objects
 
 -- each object is where it may be, and none stands in itself

@@ -51,7 +51,8 @@ choice tag f g = record { put = put_choice tag f g; get = get_choice tag f g; sk
 abbrev pub Starts : {A : Type 0} → Format A → Type 0
 Starts {A} f = (x : A) → (b : ℕ) × (rest : List ℕ) × (f.put x ≡ b ∷ rest)
 
-pub choice_takes : {A B : Type 0} (tag : ℕ) (f : Format A) (g : Format B) → IsFormat f → IsFormat g → Starts g → (bytes : List ℕ) (x : A ⊎ B) (rest : List ℕ) → IsBytes bytes → get_choice tag f g bytes ≡ Some (x, rest)
+pub choice_takes : {A B : Type 0} (tag : ℕ) (f : Format A) (g : Format B) → IsFormat f → IsFormat g → Starts g
+    → (bytes : List ℕ) (x : A ⊎ B) (rest : List ℕ) → IsBytes bytes → get_choice tag f g bytes ≡ Some (x, rest)
     → Takes bytes (put_choice tag f g x) rest × (fits_choice tag f g x ≡ true)
 choice_takes tag f g p q starts [] x rest fits e = absurd cc
 choice_takes {A} {B} tag f g p q starts (b ∷ bytes) x rest fits e =
@@ -77,14 +78,17 @@ choice_takes {A} {B} tag f g p q starts (b ∷ bytes) x rest fits e =
 get_other : {A B : Type 0} (tag : ℕ) (f : Format A) (g : Format B) (b : ℕ) (bytes : List ℕ) → eqb b tag ≡ false → get_choice tag f g (b ∷ bytes) ≡ and_then (g.get (b ∷ bytes)) into_others
 get_other tag f g b bytes isnt = rw isnt refl
 
-pub choice_again : {A B : Type 0} (tag : ℕ) (f : Format A) (g : Format B) → IsFormat f → IsFormat g → Starts g → (x : A ⊎ B) (rest : List ℕ) → fits_choice tag f g x ≡ true → get_choice tag f g (put_choice tag f g x ++ rest) ≡ Some (x, rest)
+pub choice_again : {A B : Type 0} (tag : ℕ) (f : Format A) (g : Format B) → IsFormat f → IsFormat g → Starts g
+    → (x : A ⊎ B) (rest : List ℕ) → fits_choice tag f g x ≡ true → get_choice tag f g (put_choice tag f g x ++ rest) ≡ Some (x, rest)
 choice_again tag f g p q starts (inl a) rest h = rw (eq-eqb tag tag refl, p.again a rest h) refl
 choice_again {A} {B} tag f g p q starts (inr y) rest h =
     let t = and_parts (is_other tag (g.put y)) (g.fits y) h in
     let s = starts y in
     let isnt : eqb s.0 tag ≡ false = not-true (eqb s.0 tag) (sym (ap (is_other tag) s.2) ∙ t.0) in
     let split : g.put y ++ rest ≡ s.0 ∷ (s.1 ++ rest) = ap (λ (bs : List ℕ). bs ++ rest) s.2 in
-    ap (get_choice tag f g) split ∙ get_other tag f g s.0 (s.1 ++ rest) isnt ∙ ap (λ (bs : List ℕ). and_then (g.get bs) (into_others {A = A} {B = B})) (sym split) ∙ ap (λ (o : Option (B × List ℕ)). and_then o (into_others {A = A} {B = B})) (q.again y rest t.1)
+    ap (get_choice tag f g) split ∙ get_other tag f g s.0 (s.1 ++ rest) isnt
+    ∙ ap (λ (bs : List ℕ). and_then (g.get bs) (into_others {A = A} {B = B})) (sym split)
+    ∙ ap (λ (o : Option (B × List ℕ)). and_then o (into_others {A = A} {B = B})) (q.again y rest t.1)
 
 pub choice_skips : {A B : Type 0} (tag : ℕ) (f : Format A) (g : Format B) → IsFormat f → IsFormat g → (bytes : List ℕ) → skip_choice tag f g bytes ≡ behind (get_choice tag f g bytes)
 choice_skips tag f g p q [] = refl

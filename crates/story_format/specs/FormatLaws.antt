@@ -71,8 +71,10 @@ number_takes w wide bytes n rest fits e =
     let long : byte_len w ≤ length bytes = ltb-false _ _ g.0 in
     let n-is : from_be_bytes w (take (byte_len w) bytes) ≡ n = ap (λ (p : ℕ × List ℕ). p.0) g.1 in
     let rest-is : drop (byte_len w) bytes ≡ rest = ap (λ (p : ℕ × List ℕ). p.1) g.1 in
-    let front : to_be_bytes w n ≡ take (byte_len w) bytes = rw (← n-is) (wide.back (take (byte_len w) bytes) (omega (arith, length-take (byte_len w) bytes)) (IsBytes-take (byte_len w) bytes fits)) in
-    (record { parts = rw (front, ← rest-is) (sym (take-append-drop (byte_len w) bytes)); rest_fits = rw (← rest-is) (IsBytes-drop (byte_len w) bytes fits) }, rw (← n-is) (wide.below (take (byte_len w) bytes) (IsBytes-take (byte_len w) bytes fits)))
+    let front : to_be_bytes w n ≡ take (byte_len w) bytes = rw (← n-is) (wide.back (take (byte_len w) bytes) (omega (arith, length-take (byte_len w) bytes)) (IsBytes-take (byte_len w) bytes fits)) in (
+      record { parts = rw (front, ← rest-is) (sym (take-append-drop (byte_len w) bytes)); rest_fits = rw (← rest-is) (IsBytes-drop (byte_len w) bytes fits) },
+      rw (← n-is) (wide.below (take (byte_len w) bytes) (IsBytes-take (byte_len w) bytes fits)),
+    )
 
 number_again : (w : Width) → IsWide w → (n : ℕ) (rest : List ℕ) → n < 256 ^ byte_len w → (number w).get (to_be_bytes w n ++ rest) ≡ Some (n, rest)
 number_again w wide n rest lt =
@@ -111,7 +113,8 @@ byte_lawful = record { takes = byte_takes; again = λ n rest h. refl; skips = by
 
 -- ---- one behind the other
 
-pair_skips : {A B : Type 0} (g : Format B) → IsFormat g → (found : Option (A × List ℕ)) → skip_then (behind found) g.skip ≡ behind {A = A × B} (and_then found (λ a after. and_then (g.get after) (λ b rest. Some ((a, b), rest))))
+pair_skips : {A B : Type 0} (g : Format B) → IsFormat g → (found : Option (A × List ℕ))
+    → skip_then (behind found) g.skip ≡ behind {A = A × B} (and_then found (λ a after. and_then (g.get after) (λ b rest. Some ((a, b), rest))))
 pair_skips {A} {B} g q None = refl
 pair_skips {A} {B} g q (Some x) = q.skips x.1 ∙ behind_value {A = B} {B = A × B} (λ b. (x.0, b)) (g.get x.1)
 
@@ -167,7 +170,8 @@ optional_lawful none f p highest = record {
       subst (λ (y : Option ℕ × List ℕ). Takes bytes (f.put (optional_number none y.0)) y.1 × (fits_optional none y.0 ≡ true)) (same_Some (optional_of none a.0.0, a.0.1) (x, rest) a.2)
       (subst (λ (k : ℕ). Takes bytes (f.put k) a.0.1) (sym back.0) first.0, back.1);
   again = λ x rest h.
-      ap (λ (o : Option (ℕ × List ℕ)). and_then o (λ n rest. Some (optional_of none n, rest))) (p.again (optional_number none x) rest (highest (optional_number none x) ∙ lt-ltb (optional_number none x) (none + 1) (optional_below none x h)))
+      ap (λ (o : Option (ℕ × List ℕ)). and_then o (λ n rest. Some (optional_of none n, rest)))
+      (p.again (optional_number none x) rest (highest (optional_number none x) ∙ lt-ltb (optional_number none x) (none + 1) (optional_below none x h)))
       ∙ ap (λ (o : Option ℕ). Some (o, rest)) (optional_forth none x h);
   skips = λ bytes. p.skips bytes ∙ behind_value (optional_of none) (f.get bytes);
 }
@@ -178,7 +182,8 @@ many_take : {A : Type 0} (f : Format A) → IsFormat f → (n : ℕ) (bytes : Li
     → Takes bytes (flat_map f.put xs) rest × (length xs ≡ n) × (list_all f.fits xs ≡ true)
 unfolding get_many
 many_take {A} f p zero bytes xs rest fits e =
-    subst (λ (y : List A × List ℕ). Takes bytes (flat_map f.put y.0) y.1 × (length y.0 ≡ 0) × (list_all f.fits y.0 ≡ true)) (same_Some ([], bytes) (xs, rest) e) (record { parts = refl; rest_fits = fits }, refl, refl)
+    subst (λ (y : List A × List ℕ). Takes bytes (flat_map f.put y.0) y.1 × (length y.0 ≡ 0) × (list_all f.fits y.0 ≡ true)) (same_Some ([], bytes) (xs, rest) e)
+    (record { parts = refl; rest_fits = fits }, refl, refl)
 many_take {A} f p (suc n) bytes xs rest fits e =
     let a = and_then_some (f.get bytes) (λ x after. and_then (get_many f.get n after) (λ xs rest. Some (x ∷ xs, rest))) (xs, rest) e in
     let b = and_then_some (get_many f.get n a.0.1) (λ xs rest. Some (a.0.0 ∷ xs, rest)) (xs, rest) a.2 in
@@ -233,7 +238,8 @@ counted_lawful {A} count f c p = record {
 
 -- ---- texts
 
-text_skips : (found : Option (ℕ × List ℕ)) → and_then found (λ n after. cond (ltb (length after) n) None (Some (drop n after))) ≡ behind (and_then found (λ n after. cond (ltb (length after) n) None (Some (take n after, drop n after))))
+text_skips : (found : Option (ℕ × List ℕ))
+    → and_then found (λ n after. cond (ltb (length after) n) None (Some (drop n after))) ≡ behind (and_then found (λ n after. cond (ltb (length after) n) None (Some (take n after, drop n after))))
 text_skips None = refl
 text_skips (Some x) = guarded_behind (ltb (length x.1) x.0) (take x.0 x.1) (drop x.0 x.1)
 
@@ -250,11 +256,14 @@ text_lawful = record {
       let len : length (take n after) ≡ n = omega (arith, length-take n after) in
       let second : Takes after (take n after) (drop n after) = record { parts = sym (take-append-drop n after); rest_fits = IsBytes-drop n after first.0.rest_fits } in
       let all = Takes-then bytes (to_be_bytes w16 n) after (take n after) (drop n after) first.0 second in
-      let whole : Takes bytes (to_be_bytes w16 (length (take n after)) ++ take n after) (drop n after) = subst (λ (k : ℕ). Takes bytes (to_be_bytes w16 k ++ take n after) (drop n after)) (sym len) all in
-      subst (λ (p : List ℕ × List ℕ). Takes bytes (to_be_bytes w16 (length p.0) ++ p.0) p.1 × (ltb (length p.0) 65536 ≡ true)) g.1 (whole, lt-ltb (length (take n after)) 65536 (omega (arith, len, first.1)));
+      let whole : Takes bytes (to_be_bytes w16 (length (take n after)) ++ take n after) (drop n after) =
+      subst (λ (k : ℕ). Takes bytes (to_be_bytes w16 k ++ take n after) (drop n after)) (sym len) all in
+      subst (λ (p : List ℕ × List ℕ). Takes bytes (to_be_bytes w16 (length p.0) ++ p.0) p.1 × (ltb (length p.0) 65536 ≡ true)) g.1
+      (whole, lt-ltb (length (take n after)) 65536 (omega (arith, len, first.1)));
   again = λ x rest h.
       let long : ltb (length (x ++ rest)) (length x) ≡ false = le-ltb _ _ (omega (arith, length-append x rest)) in
-      ap (λ (o : Option (ℕ × List ℕ)). and_then o (λ n after. cond (ltb (length after) n) None (Some (take n after, drop n after)))) (ap (number w16).get (append_assoc (to_be_bytes w16 (length x)) x rest) ∙ number_again w16 wide16 (length x) (x ++ rest) (ltb-true _ _ h))
+      ap (λ (o : Option (ℕ × List ℕ)). and_then o (λ n after. cond (ltb (length after) n) None (Some (take n after, drop n after))))
+      (ap (number w16).get (append_assoc (to_be_bytes w16 (length x)) x rest) ∙ number_again w16 wide16 (length x) (x ++ rest) (ltb-true _ _ h))
       ∙ rw (long, take_at x rest (length x) refl, drop_at x rest (length x) refl) refl;
   skips = λ bytes. text_skips ((number w16).get bytes);
 }

@@ -156,5 +156,7 @@ plain_contents t bytes = record { texts = map plain bytes; rules = []; listings 
 -- they are said where each is at most 65,535 bytes, as each name of a value is, and the actions may be said
 abbrev pub PlainTextsAreHeld : Type 0
 PlainTextsAreHeld =
-    (t : Tale) (bytes : List (List ℕ)) → IsHeld t → list_all has_few_words (worded [] t.objects) ≡ true → length t.declared.actions ≤ 184 → list_all has_first_noun t.declared.actions ≡ true → list_all is_short (names_of_values t.declared.values) ≡ true → length bytes ≡ codes_in t.objects → list_all is_short bytes ≡ true
+    (t : Tale) (bytes : List (List ℕ)) → IsHeld t → list_all has_few_words (worded [] t.objects) ≡ true → length t.declared.actions ≤ 184
+    → list_all has_first_noun t.declared.actions ≡ true → list_all is_short (names_of_values t.declared.values) ≡ true
+    → length bytes ≡ codes_in t.objects → list_all is_short bytes ≡ true
     → AreHeld t (plain_contents t bytes)

@@ -46,7 +46,17 @@ world_layout = as_record
 -- table 6: an object's entry
 unfoldable pub entry_layout : Layout Entry
 entry_layout = as_record
-    (λ p. record { kind = p.0; name = p.1.0; article = p.1.1.0; description = p.1.1.1.0; words = p.1.1.1.1.0; relation = p.1.1.1.1.1.0; holder = p.1.1.1.1.1.1.0; properties = p.1.1.1.1.1.1.1.0; numbers = p.1.1.1.1.1.1.1.1 })
+    (λ p. record {
+      kind = p.0;
+      name = p.1.0;
+      article = p.1.1.0;
+      description = p.1.1.1.0;
+      words = p.1.1.1.1.0;
+      relation = p.1.1.1.1.1.0;
+      holder = p.1.1.1.1.1.1.0;
+      properties = p.1.1.1.1.1.1.1.0;
+      numbers = p.1.1.1.1.1.1.1.1;
+    })
     (λ e. (e.kind, (e.name, (e.article, (e.description, (e.words, (e.relation, (e.holder, (e.properties, e.numbers))))))))) (λ p. refl) (λ e. refl)
     (then u8s (then u16s (then u8s (then u16s (then (list_of u16s) (then u8s (then u16s (then (list_of u8s) (list_of u32s)))))))))
 

@@ -51,8 +51,10 @@ table_of f = record { format = counted (number w16) f.format; lawful = counted_l
 abbrev pub no_table : {A : Type 0} → Format (List A)
 no_table = record { put = λ xs. []; get = λ bytes. Some ([], bytes); skip = λ bytes. Some bytes; fits = λ xs. length xs == 0 }
 
-pub no_table_takes : {A : Type 0} (bytes : List ℕ) (xs : List A) (rest : List ℕ) → IsBytes bytes → (no_table {A = A}).get bytes ≡ Some (xs, rest) → Takes bytes [] rest × ((length xs == 0) ≡ true)
-no_table_takes {A} bytes xs rest fits e = subst (λ (p : List A × List ℕ). Takes bytes [] p.1 × ((length p.0 == 0) ≡ true)) (same_Some ([], bytes) (xs, rest) e) (record { parts = refl; rest_fits = fits }, refl)
+pub no_table_takes : {A : Type 0} (bytes : List ℕ) (xs : List A) (rest : List ℕ) → IsBytes bytes → (no_table {A = A}).get bytes ≡ Some (xs, rest)
+    → Takes bytes [] rest × ((length xs == 0) ≡ true)
+no_table_takes {A} bytes xs rest fits e =
+    subst (λ (p : List A × List ℕ). Takes bytes [] p.1 × ((length p.0 == 0) ≡ true)) (same_Some ([], bytes) (xs, rest) e) (record { parts = refl; rest_fits = fits }, refl)
 
 pub no_table_again : {A : Type 0} (xs : List A) (rest : List ℕ) → (length xs == 0) ≡ true → (no_table {A = A}).get rest ≡ Some (xs, rest)
 no_table_again [] rest h = refl

@@ -1,4 +1,5 @@
 -- The tables of a tale.
+use Rattle.world_meaning.specs.Relations.{relation_number}
 use Rattle.std.specs.Prelude.{ℕ, zero, suc, ℤ, ◌+◌, List, [], ◌∷◌, ◌++◌, drop, is_some, map, min, slice_get, Option, Some, None, if◌then◌else◌}
 use Rattle.std.specs.List.{flat_map, range_with_len}
 use Rattle.std.specs.Int.{w32, cast_unsigned}
@@ -104,13 +105,6 @@ article_number articles.None = 0
 article_number articles.A = 1
 article_number articles.An = 2
 article_number articles.Some = 3
-
-abbrev pub relation_number : Rel → ℕ
-relation_number relations.In = 0
-relation_number relations.On = 1
-relation_number relations.Carried = 2
-relation_number relations.Worn = 3
-relation_number relations.Part = 4
 
 abbrev pub place_relation : Option Place → ℕ
 place_relation None = 255

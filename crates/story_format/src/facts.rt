@@ -1,6 +1,6 @@
 //! What a story gives to play besides texts and ways: kinds, properties and doors, and what objects begin with.
 ghost use Rattle.std.specs.Prelude.{◌≡◌, ◌≤◌, IfOk, count_by, length};
-ghost use Rattle.std.specs.Int.{cast_signed, w32};
+ghost use Rattle.std.specs.Int.{cast_signed};
 ghost use Rattle.world_meaning.specs.Declarations.{has_property, is_had};
 ghost use Rattle.story_format.specs.Facts.{way_in};
 ghost use Rattle.story_format.specs.InPlay.{article_numbered, article_of, door_in, exits_of, has_flag, has_number, is_of, number_from, start_flags, start_number, start_numbers, start_variables, starts_true};

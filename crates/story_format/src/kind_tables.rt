@@ -1,5 +1,5 @@
 //! Whether objects have what their kinds have: it is told once for each kind.
-ghost use Rattle.std.specs.Prelude.{◌≡◌, ◌≤◌, IfOk, length, count_by, true};
+ghost use Rattle.std.specs.Prelude.{◌≡◌, ◌≤◌, IfOk, length, true};
 ghost use Rattle.std.specs.List.{list_all};
 ghost use Rattle.story_format.specs.KindTables.{all_had, count_told, had_by, is_told_had, suits_told};
 ghost use Rattle.story_format.specs.Sizes.{is_right_entry};

@@ -1,6 +1,6 @@
 //! Loading a story: its tables are skipped, so that the counts are known to be in place before memory is
 //! taken; then they are read and tested.
-ghost use Rattle.std.specs.Prelude.{◌≡◌, IfOk, IfErr, true};
+ghost use Rattle.std.specs.Prelude.{◌≡◌, IfOk, IfErr};
 ghost use Rattle.std.specs.Result.{MatchResult};
 ghost use Rattle.story_format.specs.Layout.{tables_layout};
 ghost use Rattle.story_format.specs.Reading.{Gives, is_right_file, tables_read, whole};

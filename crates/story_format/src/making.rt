@@ -5,7 +5,8 @@ ghost use Rattle.command_grammar.specs.Lines.{line_meant};
 ghost use Rattle.object_words.specs.Mentions.{first_mentions, mention, number_in};
 ghost use Rattle.play_meaning.specs.StandardGrammar.{standard_lines};
 ghost use Rattle.story_format.specs.Contents.{contents_meant};
-ghost use Rattle.story_format.specs.Making.{books_of, worded, article_number, relation_number, place_relation, place_holder, code_number, entry_strings, line_entry, story_lines, story_strings, story_tables, strings_with, entry_of, entries_of, texts_named, ways_of, described_in, tables_uncoded};
+ghost use Rattle.story_format.specs.Making.{books_of, worded, article_number, place_relation, place_holder, code_number, entry_strings, line_entry, story_lines, story_strings, story_tables, strings_with, entry_of, entries_of, texts_named, ways_of, described_in, tables_uncoded};
+ghost use Rattle.world_meaning.specs.Relations.{relation_number};
 ghost use Rattle.story_format.specs.WordedViews.{worded_of, all_worded};
 
 use crate::contents::Contents;
@@ -25,6 +26,7 @@ use object_words::Strings;
 use std::alloc::{AllocError, Global};
 use world_meaning::{
     Article, Declared, Exits, KindNo, Listed, Object, Place, Rel, Tale, TextBytes, is_under,
+    relation_number,
 };
 
 /// An object, and the words that a command may name it by.
@@ -139,18 +141,6 @@ fn article_number(article: Article) -> u8
         Article::A => 1,
         Article::An => 2,
         Article::Some => 3,
-    }
-}
-
-fn relation_number(relation: Rel) -> u8
-    ensures { result ≡ relation_number relation }
-{
-    match relation {
-        Rel::In => 0,
-        Rel::On => 1,
-        Rel::Carried => 2,
-        Rel::Worn => 3,
-        Rel::Part => 4,
     }
 }
 

@@ -1,5 +1,5 @@
 //! The strings that texts say, in order.
-ghost use Rattle.std.specs.Prelude.{◌≡◌, ◌++◌, OnOk, fold};
+ghost use Rattle.std.specs.Prelude.{◌≡◌, OnOk, fold};
 ghost use Rattle.std.specs.List.{flat_map};
 ghost use Rattle.object_words.specs.Mentions.{mention};
 ghost use Rattle.story_format.specs.Mentioning.{part_strings, piece_strings, text_strings};

@@ -8,6 +8,7 @@ use crate::grammar_facts::{DIRECTION, SOMETHING};
 use crate::place::NONE;
 use crate::rule_entry::{Aspect, PropertySide, RuleBody, RuleEntry};
 use crate::rule_tables::{ActionEntry, Book, LineEntry, RuleTables, SceneEntry};
+use command_grammar::MOST_TOKENS;
 use play_meaning::Counts;
 use std::alloc::{AllocError, Global};
 
@@ -19,9 +20,6 @@ const MOST_ACTIONS: usize = 200;
 
 /// The most lines of a grammar.
 const MOST_LINES: usize = 65_535;
-
-/// The most tokens of a line.
-const MOST_TOKENS: usize = 32;
 
 /// The most rules of a story.
 const MOST_RULES: usize = 2000;

@@ -1,5 +1,4 @@
 //! Table 10: rules.
-ghost use Rattle.std.specs.Prelude.{◌≡◌};
 
 use crate::field::{Field, read_fields, skip_fields, write_fields};
 use std::alloc::{AllocError, Global};

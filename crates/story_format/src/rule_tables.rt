@@ -1,5 +1,4 @@
 //! Tables 8 to 12: actions, grammar, rules, books and scenes.
-ghost use Rattle.std.specs.Prelude.{◌≡◌};
 
 use crate::field::{Field, read_fields, skip_fields, write_fields};
 use crate::rule_entry::RuleEntry;

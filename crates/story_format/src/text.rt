@@ -1,5 +1,4 @@
 //! Texts: bytes behind their number.
-ghost use Rattle.std.specs.Prelude.{◌≡◌};
 
 use crate::field::Field;
 use crate::number::{behind, number16};

@@ -1,5 +1,5 @@
 //! What tables 14 and 15 say: each test is named after what it asks.
-ghost use Rattle.std.specs.Prelude.{◌≡◌, ◌≤◌, [], IfOk, length, map, nat_lt, slice_index_or, true, filter};
+ghost use Rattle.std.specs.Prelude.{◌≡◌, ◌≤◌, [], IfOk, length, nat_lt, slice_index_or, true};
 ghost use Rattle.std.specs.List.{list_all};
 ghost use Rattle.world_meaning.specs.Declarations.{are_each_below, is_had};
 ghost use Rattle.story_format.specs.Checks.{are_first_right};

@@ -2,7 +2,7 @@
 ghost use Rattle.std.specs.Prelude.{◌≡◌, ◌≤◌, [], IfOk, count_by, length, drop, map, slice_index_or, take};
 ghost use Rattle.world_meaning.specs.Declarations.{has_property, is_had};
 ghost use Rattle.story_format.specs.Facts.{text_at};
-ghost use Rattle.story_format.specs.InPlay.{first_own, grants_in, has_value, names_in, place_of_value, start_value, start_values, start_values_from, value_names};
+ghost use Rattle.story_format.specs.InPlay.{first_own, has_value, start_value, start_values, value_names};
 
 use crate::Story;
 use crate::tables::{Entry, Tables};

@@ -1,5 +1,5 @@
 //! Tables 14 and 15: kinds of value, and the values of objects. A file of version 1 has neither.
-ghost use Rattle.std.specs.Prelude.{◌≡◌, ◌++◌, [], IfOk, OnOk, IsTrue};
+ghost use Rattle.std.specs.Prelude.{◌≡◌, ◌++◌, IfOk, OnOk, IsTrue};
 ghost use Rattle.story_format.specs.Formats.{left, seen};
 ghost use Rattle.story_format.specs.Layout.{no_values, values_layout};
 

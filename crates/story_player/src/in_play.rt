@@ -1,6 +1,5 @@
 //! A story in play, as commands are read against it: its objects with their words, the lines of its grammar, and what the
 //! player sees.
-ghost use Rattle.std.specs.Prelude.{◌≡◌};
 
 use command_grammar::Token;
 use command_parser::Commands;

@@ -1,22 +1,20 @@
 //! Turns and the opening over a stage: their parts in order, each of which is skipped once the story has ended.
-ghost use Rattle.std.specs.Prelude.{◌≡◌, [], ◌∷◌, Ok};
+ghost use Rattle.std.specs.Prelude.{◌≡◌, ◌≤◌, [], ◌∷◌, Err, None, Ok};
 ghost use Rattle.play_meaning.specs.Consulting.{every_turn_book};
-ghost use Rattle.play_meaning.specs.Turns.{behind_action, count_turn, follow, look_round, opening, parts, pass, perform, turn, unless_over};
+ghost use Rattle.play_meaning.specs.Turns.{behind_action, count_turn, follow, look_round, most_turns, opening, parts, pass, perform, turn, unless_over};
 ghost use Rattle.action_stages.specs.Answering.{Answers};
 ghost use Rattle.action_stages.specs.Returning.{IsThere};
 ghost use Rattle.action_stages.specs.Stages.{back_of, progress_of, story_of, tables_of};
+ghost use Rattle.world_meaning.specs.declared.session.Abandon.TheVariants.{NumberOutOfRange};
 ghost use Rattle.world_store.specs.StoryPlay.{game_in_play};
 ghost use Rattle.story_player.specs.Begun.{begin_play};
 
-use action_stages::{Stage, count_turn, follow, perform};
+use action_stages::{LEVELS, Stage, count_turn, follow, perform};
 use play_meaning::standard_actions::LOOKING;
 use play_meaning::{ActNo, ActionNow};
 use scenes::pass;
 use std::alloc::Global;
 use world_meaning::Abandon;
-
-/// How many levels actions and rulebooks may be nested below a command's own.
-const LEVELS: u8 = 16;
 
 /// The rulebook of every turn.
 const EVERY_TURN: u16 = 6;
@@ -95,11 +93,12 @@ fn pass_unless_over(alloc: Global, stage: &mut Stage<'_>) -> Result<(), Abandon>
     }
 }
 
-/// Counts the turn, if there is a number for it, unless the story has ended.
+/// Counts the turn, unless the story has ended. Where there is no number for it, it is out of range.
 fn count_unless_over(stage: &mut Stage<'_>) -> Result<(), Abandon>
     requires told { tables_of stage.old ≡ story_of stage.old }
     requires there { IsThere (back_of stage.old) }
     ensures answer { Answers result (λ done. progress_of stage.new) (unless_over (progress_of stage.old).world.ended count_turn (progress_of stage.old)) }
+    ensures last { (progress_of stage.old).world.ended ≡ None → most_turns ≤ (progress_of stage.old).world.turns → result ≡ Err NumberOutOfRange }
     ensures story { story_of stage.new ≡ story_of stage.old }
     ensures tables { tables_of stage.new ≡ story_of stage.old }
     ensures back { back_of stage.new ≡ back_of stage.old }

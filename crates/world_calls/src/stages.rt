@@ -5,16 +5,13 @@ ghost use Rattle.action_stages.specs.Stages.{back_of, story_of, tables_of};
 
 use crate::rules::quoted;
 use crate::words::Words;
-use action_stages::{Stage, consult, perform};
+use action_stages::{LEVELS, Stage, consult, perform};
 use play_meaning::{ActNo, ActionNow, Outcome};
 use rule_index::Index;
 use standard_rules::HostTable;
 use std::alloc::{AllocError, Global};
 use world_meaning::Abandon;
 use world_store::World;
-
-/// How many levels there are below an action of the player's.
-const LEVELS: u8 = 16;
 
 /// How an action or a rulebook ended.
 fn ending(outcome: Option<Outcome>) -> &'static str {

@@ -4,3 +4,4 @@ pub mod Climbs
 pub mod Sights
 pub mod Placings
 pub mod Ends
+pub mod Digits

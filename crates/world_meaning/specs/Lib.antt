@@ -3,9 +3,11 @@ pub mod Declarations
 pub mod Directions
 pub mod Faults
 pub mod Kinds
+pub mod Literals
 pub mod Placing
 pub mod Properties
 pub mod Reading
+pub mod Relations
 pub mod Sight
 pub mod SightExamples
 pub mod Sorts

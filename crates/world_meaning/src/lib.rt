@@ -12,10 +12,12 @@ mod holders;
 mod kind_laws;
 mod kinds;
 mod listed;
+mod literal;
 mod needs;
 mod numbers;
 mod place;
 mod placing_laws;
+mod relation;
 mod session;
 mod sight_laws;
 mod sorts;
@@ -36,10 +38,12 @@ pub use kinds::{
     is_under_one,
 };
 pub use listed::Listed;
+pub use literal::{is_literal, is_out_of_range, literal_in, literal_of};
 pub use needs::{Needs, Slot};
 pub use numbers::ObjNo;
 pub use place::{Place, Rel};
 pub use placing_laws::placing_keeps_its_rules;
+pub use relation::relation_number;
 pub use session::{Abandon, Ending, ReplyKind};
 pub use sight_laws::{
     boxes_hide_and_keep, light_comes_from_inside, places_are_seen, the_dark_hides,
@@ -47,4 +51,4 @@ pub use sight_laws::{
 pub use sorts::{Sorts, are_well_placed, is_at, sorts_of};
 pub use spelling::{is_spelled, lowered};
 pub use tale::{Object, Tale};
-pub use text::TextBytes;
+pub use text::{MOST_BYTES, TextBytes};

@@ -10,7 +10,8 @@ use Rattle.object_tree.specs.Places.{children_of, holder_of, is_holder}
 use Rattle.play_meaning.specs.Deeds.{is_on_view, on_view}
 use Rattle.play_meaning.specs.Settings.{Setting, described_flag, direction_kind, objects_of, room_kind, scenery_flag, thing_kind}
 use Rattle.play_meaning.specs.Trees.{First, NotSo, Quality}
-use Rattle.play_meaning.specs.Values.{beyond, is_among, is_held, is_place, relation_number}
+use Rattle.play_meaning.specs.Values.{beyond, is_among, is_held, is_place}
+use Rattle.world_meaning.specs.Relations.{relation_number}
 use Rattle.play_meaning.specs.Worlds.{World, location_of, place_of}
 use Rattle.world_store.specs.StorySettings.{setting_of}
 use Rattle.world_store.specs.StoryWorlds.{IsKept, StoryWorld}

@@ -2,7 +2,7 @@
 ghost use Rattle.std.specs.Prelude.{◌≡◌, ◌++◌, [], ◌∷◌, OnOk};
 ghost use Rattle.play_meaning.specs.Meant.{adjective_meant, basic_meant, clause_meant, condition_meant, conjunction_meant, description_meant, number_meant, object_meant};
 ghost use Rattle.play_meaning.specs.Translation.{adjective_code, condition_part, description_code, held_code, number_part, object_code, one, seq, these};
-ghost use Rattle.story_code.specs.Emitting.{clauses_emitted, conjunctions_emitted, emitted, has_code};
+ghost use Rattle.story_code.specs.Emitting.{emitted, has_code};
 
 use crate::emitting::number::emit_number;
 use crate::emitting::object::{object_code, put, put_adjective, put_description, put_object};

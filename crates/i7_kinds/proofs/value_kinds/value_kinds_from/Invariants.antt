@@ -1,4 +1,4 @@
-use Rattle.std.proofs.Common.{◌≡◌, ◌≤◌, ◌+◌, ◌++◌, length, map}
+use Rattle.std.proofs.Common.{◌≡◌, ◌+◌, ◌++◌, length, map}
 use Rattle.i7_kinds.specs.ValueKinds.{value_kinds_from}
 use Rattle.i7_kinds.proofs.value_kinds.value_kinds_from.Given as goal
 

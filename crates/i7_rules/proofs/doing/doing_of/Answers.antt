@@ -5,17 +5,19 @@ use Rattle.i7_conditions.specs.Readings.{IsFoundAs}
 use Rattle.i7_conditions.specs.Scopes.{scope_of}
 use Rattle.i7_phrases.specs.ChangeForms.{found_simple}
 use Rattle.i7_phrases.specs.Limits.{phrase_is_over}
-use Rattle.i7_rules.specs.Doings.{ChangesOrEnds, Does}
+use Rattle.i7_rules.specs.Doings.{ChangesOrEnds, Does, SaysSo}
 use Rattle.i7_rules.specs.Knowns.{known_of}
-use Rattle.i7_rules.proofs.Told.{other_does}
+use Rattle.i7_rules.proofs.Told.{other_does, says_does}
 use Rattle.i7_sentences.specs.declared.spoken.Spoken.{Spoken}
 use Rattle.i7_sentences.specs.declared.spoken.Spoken.TheVariants as spoken
 use Rattle.i7_rules.proofs.doing.doing_of.Goals as goal
 
 pub returns-in-Say : goal.returns-in-Say
 returns-in-Say c =
-    subst (λ (said : Spoken). IfOk c.said_of.result (λ found. IsFoundAs (Does (known_of c.args.known.now) (scope_of c.args.scope.now) said) phrase_is_over (found_simple found)))
-    (ap spoken.Say c.as_slice.ensures ∙ sym c.in-Say.is) c.said_of.ensures
+    let does = says_does (known_of c.args.known.now) (scope_of c.args.scope.now) c.args.said.now c.as_slice.result.now _ _ c.in-Say.is c.as_slice.ensures in
+    IfOk-weaker c.said_of.result (λ found. IsFoundAs (SaysSo (scope_of c.args.scope.now) c.as_slice.result.now) phrase_is_over (found_simple found))
+    (λ found. IsFoundAs (Does (known_of c.args.known.now) (scope_of c.args.scope.now) c.args.said.now) phrase_is_over (found_simple found))
+    (λ found h. does (found_simple found) h) c.said_of.ensures
 
 pub returns-in-Try : goal.returns-in-Try
 returns-in-Try c =

@@ -5,9 +5,7 @@ use Rattle.i7_conditions.specs.Scopes.{scope_of}
 use Rattle.i7_phrases.specs.ChangeForms.{found_simple}
 use Rattle.i7_phrases.specs.Limits.{phrase_is_over}
 use Rattle.i7_phrases.specs.Texts.{found_text}
-use Rattle.i7_sentences.specs.declared.spoken.Spoken.TheVariants.{Say}
-use Rattle.i7_rules.specs.Doings.{Does}
-use Rattle.i7_rules.specs.Knowns.{known_of}
+use Rattle.i7_rules.specs.Doings.{SaysSo}
 use Rattle.i7_rules.specs.Saying.{saying}
 use Rattle.i7_rules.proofs.Told.{text_told}
 use Rattle.i7_rules.proofs.saying.said_of.Goals as goal
@@ -17,7 +15,7 @@ returns c =
     let text = found_text c.in_ok-text.text in
     IfOk-weaker c.said_so.result
     (λ found. found_simple found ≡ one (saying c.ends_sentence.result) text)
-    (λ found. IsFoundAs (Does (known_of c.args.known.now) (scope_of c.args.scope.now) (Say c.args.pieces.now)) phrase_is_over (found_simple found))
-    (λ found e. text_told (known_of c.args.known.now) (scope_of c.args.scope.now) c.args.pieces.now text (found_simple found)
+    (λ found. IsFoundAs (SaysSo (scope_of c.args.scope.now) c.args.pieces.now) phrase_is_over (found_simple found))
+    (λ found e. text_told (scope_of c.args.scope.now) c.args.pieces.now text (found_simple found)
     (e ∙ ap (λ ends. one (saying ends) text) c.ends_sentence.ensures) c.in_ok-text.ensures)
     c.said_so.ensures

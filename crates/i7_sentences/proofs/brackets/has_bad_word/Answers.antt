@@ -2,7 +2,7 @@ use Rattle.std.proofs.Common.{rules, tests}
 use Rattle.std.proofs.lemmas.Iterator.Search.{any_from_yields_List}
 use Rattle.std.proofs.lemmas.Iterator.Splits.{YieldsList-from_slice_split}
 use Rattle.i7_sentences.specs.BracketedWords.{is_gap}
-use Rattle.i7_sentences.specs.Literals.{is_out_of_range}
+use Rattle.world_meaning.specs.Literals.{is_out_of_range}
 use Rattle.i7_sentences.proofs.brackets.has_bad_word.Goals as goal
 
 pub returns : goal.returns

@@ -1,4 +1,4 @@
-use Rattle.std.proofs.Common.{◌≡◌, ◌∙◌, ◌+◌, sym, drop, filter}
+use Rattle.std.proofs.Common.{◌∙◌, ◌+◌, sym, drop, filter}
 use Rattle.story_format.specs.Facts.{rules_listed}
 use Rattle.rule_index.specs.Buckets.{rule_admits}
 use Rattle.rule_index.proofs.WalkLemmas.{goes_on, kept_first}

@@ -1,7 +1,7 @@
 -- The number that digits spell only grows with each of them.
 use Rattle.std.proofs.Common.{◌≡◌, ℕ, ◌<◌, ◌≤◌, List, [], ◌∷◌, arith}
 use Rattle.std.specs.Prelude.{fold}
-use Rattle.i7_sentences.specs.Literals.{with_digit}
+use Rattle.world_meaning.specs.Literals.{with_digit}
 
 pub fold_grows : (n : ℕ) (digits : List ℕ) → n ≤ fold with_digit n digits
 fold_grows n [] = omega arith

@@ -1,5 +1,5 @@
--- Literal numbers.
-use Rattle.std.specs.Prelude.{ℕ, ℤ, pos, ◌-ℤ◌, min, ◌-◌, ◌*◌, ◌+◌, Bool, false, not, ◌&&◌, ◌==◌, nat_lt, List, [], ◌∷◌, length, fold, if◌then◌else◌}
+-- Literal numbers, from -2147483648 to 2147483647.
+use Rattle.std.specs.Prelude.{ℕ, ℤ, pos, ◌-ℤ◌, min, ◌-◌, ◌*◌, ◌+◌, Bool, false, not, ◌&&◌, ◌==◌, nat_lt, List, [], ◌∷◌, length, fold, Option, None, Some, if◌then◌else◌}
 use Rattle.std.specs.List.{list_all}
 use Rattle.std.specs.Char.{is_ascii_digit}
 
@@ -39,3 +39,7 @@ size_of word = min (magnitude (digits_of word)) (most_of word)
 -- the number that a literal spells
 abbrev pub literal_of : List ℕ → ℤ
 literal_of word = if is_negative word then pos 0 -ℤ pos (size_of word) else pos (size_of word)
+
+-- the number that a word spells, if it is a literal in range
+abbrev pub literal_in : List ℕ → Option ℤ
+literal_in word = if is_literal word && not (is_out_of_range word) then Some (literal_of word) else None

@@ -1,7 +1,7 @@
 use Rattle.std.proofs.Common.{◌≡◌, ◌≤◌, length}
 use Rattle.std.specs.Prelude.{fold}
-use Rattle.i7_sentences.specs.Literals.{magnitude, with_digit}
-use Rattle.i7_sentences.proofs.literal.size_up_to.Given as goal
+use Rattle.world_meaning.specs.Literals.{magnitude, with_digit}
+use Rattle.world_meaning.proofs.literal.size_up_to.Given as goal
 
 abbrev pub invariant-loop-rest : goal.invariant-loop-rest
 invariant-loop-rest l = (l.number ≤ l.most) × (fold with_digit l.number l.rest ≡ magnitude l.digits)

@@ -2,7 +2,7 @@
 ghost use Rattle.std.specs.Prelude.{◌≡◌, ◌<◌, min, nat_lt};
 ghost use Rattle.std.specs.List.{list_all};
 ghost use Rattle.std.specs.Char.{is_ascii_digit};
-ghost use Rattle.i7_sentences.specs.Literals.{digits_of, is_literal, is_negative, is_out_of_range, literal_of, magnitude, most_of};
+ghost use Rattle.world_meaning.specs.Literals.{digits_of, is_literal, is_negative, is_out_of_range, literal_in, literal_of, magnitude, most_of};
 
 /// Whether the word begins with `-`.
 fn is_negative(word: &[u8]) -> bool
@@ -104,4 +104,15 @@ pub fn is_out_of_range(word: &[u8]) -> bool
     ensures { result ≡ is_out_of_range word.now }
 {
     is_literal(word) && exceeds(digits_of(word), most_of(word))
+}
+
+/// The number that a word spells, if it is a literal in range.
+pub fn literal_in(word: &[u8]) -> Option<i32>
+    ensures { result ≡ literal_in word.now }
+{
+    if is_literal(word) && !is_out_of_range(word) {
+        Some(literal_of(word))
+    } else {
+        None
+    }
 }
