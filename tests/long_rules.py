@@ -27,7 +27,7 @@ RULES = {
     "ifs of a text": ('Every turn, say "', "[if the box is open]a[end if]", '".', TOO_MANY),
     "adjectives of a noun": ("Instead of taking", " not open", " containers, rule fails.", TOO_MANY),
     "adjectives of a place": ("Every turn in", " dark", " rooms, rule fails.", TOO_MANY),
-    # `is not not` has no reading
+    # `is not not not` has no reading
     "denials": ("Every turn when the box is", " not", ' open, say "a".', "refused\t3: C7 UnknownName"),
 }
 BLOCKS = "".join("\t" * deep + "if the box is open:\n" for deep in range(1, 690)) + "\t" * 690 + "rule fails."

@@ -27,7 +27,7 @@ use Rattle.action_stages.proofs.Falling.{falls}
 use Rattle.action_stages.proofs.Lowering.{inner_lowers, stories_lower}
 
 -- the code of a number is the one that is there
-told_at : (judged : List Judged) (n : ℕ) (j : Judged) → slice_get judged n ≡ Some j → slice_index_or (map code_told judged) n [] ≡ code_told j
+pub told_at : (judged : List Judged) (n : ℕ) (j : Judged) → slice_get judged n ≡ Some j → slice_index_or (map code_told judged) n [] ≡ code_told j
 told_at [] n j there = absurd cc
 told_at (k ∷ judged) zero j there = let same : k ≡ j = cc in ap code_told same
 told_at (k ∷ judged) (suc n) j there = told_at judged n j there

@@ -15,6 +15,7 @@ use Rattle.play_meaning.specs.Turns.{no_action}
 use Rattle.play_meaning.specs.Worlds.{World}
 use Rattle.play_meaning.specs.declared.action.ActionNow.{ActionNow}
 use Rattle.story_code.specs.Soundness.{Judged}
+use Rattle.action_stages.proofs.Asked.{books_listed}
 use Rattle.story_format.proofs.Carried.{tale_carried}
 use Rattle.story_format.proofs.Stories.{tale_is_story}
 use Rattle.story_format.specs.Carrying.{Carries}
@@ -37,7 +38,7 @@ use Rattle.world_store.specs.StoryPlay.{coded_story, game_in_play}
 use Rattle.story_format.specs.TaleScripts.{whole_script}
 use Rattle.action_stages.proofs.OtherBodies.{bodies_acted, bodies_consulted, doing}
 use Rattle.action_stages.proofs.TaleBodies.{bodies_at, sound_bodies}
-use Rattle.action_stages.proofs.TaleRules.{about_at, begins_at, books_at, conditions_at, ends_at, needs_at, scenes_recur}
+use Rattle.action_stages.proofs.TaleRules.{about_at, begins_at, conditions_at, ends_at, needs_at, scenes_recur}
 
 module _ (t : Tale) (c : Contents) (held : IsHeld t) (said : AreHeld t c) where
   abbrev tables : Tables
@@ -109,7 +110,7 @@ module _ (t : Tale) (c : Contents) (held : IsHeld t) (said : AreHeld t c) where
   but_bodies = λ i. record {
     start = (plain i).start;
     telling = tellings i;
-    books = λ book. (books_at tables.rules.books book ∙ carries.books book) i;
+    books = λ book. (books_listed tables.rules.books book ∙ carries.books book) i;
     needs = λ action. needs_at tables.rules.actions (standard_needs ++ t.declared.actions) action carries.actions i;
     is_about = λ rule now w. about rule now w i;
     holds = λ rule now w. holding rule now w i;

@@ -14,18 +14,17 @@ use Rattle.play_meaning.specs.Trees.{Adjective, Condition}
 use Rattle.play_meaning.specs.Worlds.{World, location_of}
 use Rattle.play_meaning.specs.declared.action.ActionNow.{ActionNow}
 use Rattle.story_format.specs.Carrying.{AsksFor, AsksSo, CarriesRule, CarriesScene, IsAnsweredBy, asked_by, code_if_some, need_told}
-use Rattle.story_format.specs.Facts.{rules_in}
 use Rattle.story_format.specs.declared.rule_entry.Aspect.{Aspect as Asked}
 use Rattle.story_format.specs.declared.rule_entry.Aspect.TheVariants as aspects
 use Rattle.story_format.specs.declared.rule_entry.PropertySide.{PropertySide}
 use Rattle.story_format.specs.declared.rule_entry.RuleEntry.{RuleEntry}
 use Rattle.story_format.specs.declared.rule_tables.ActionEntry.{ActionEntry}
-use Rattle.story_format.specs.declared.rule_tables.Book.{Book}
 use Rattle.story_format.specs.declared.rule_tables.SceneEntry.{SceneEntry}
 use Rattle.world_meaning.specs.declared.needs.Needs.{Needs}
 use Rattle.world_meaning.specs.declared.needs.Slot.{Slot}
 use Rattle.world_meaning.specs.declared.needs.Slot.TheVariants.{Absent, Carried, Touched, Visible}
 use Rattle.world_store.specs.StoryPlay.{adjective_told, aspect_told, needs_in, needs_told, rule_told, scene_told, slot_of}
+use Rattle.action_stages.proofs.Asked.{books_listed}
 
 -- ---- by places
 
@@ -149,11 +148,6 @@ conditions_at c s now w entries rules n zip =
     ∙ at_place (CarriesRule c) (λ r. coded_condition c s now w (option_map rule_told r)) (rule_condition s now w) refl entries rules n (λ r rule there carries. answered c s now w (code_if_some r.condition) rule.condition carries.condition) zip
 
 -- ---- books
-
-pub books_at : (books : List Book) (n : ℕ) → slice_index_or (map (λ book. book.rules) books) n [] ≡ rules_in (slice_get books n)
-books_at [] n = refl
-books_at (book ∷ books) zero = refl
-books_at (book ∷ books) (suc n) = books_at books n
 
 -- ---- scenes
 

@@ -1,6 +1,6 @@
 -- What a story's test answers is what its run ends with.
-use Rattle.std.proofs.Common.{◌≡◌, ◌∙◌, ap, sym, refl, subst, ℕ, zero, suc, List, [], ◌∷◌, length, map, Some, ◌⊎◌, inl, inr, arith}
-use Rattle.std.specs.Prelude.{Ok, Err, slice_get, slice_index_or, true, Bool}
+use Rattle.std.proofs.Common.{◌≡◌, ◌∙◌, ap, sym, refl, subst, ℕ, suc, List, [], ◌∷◌, length, Some, ◌⊎◌, inl, inr, arith}
+use Rattle.std.specs.Prelude.{Ok, Err, slice_get, true, Bool}
 use Rattle.std.proofs.lemmas.List.{length-map}
 use Rattle.std.proofs.lemmas.Option.{same_Some}
 use Rattle.play_meaning.specs.Attempts.{Attempt}
@@ -30,16 +30,12 @@ use Rattle.world_store.specs.StorySettings.{fixed_of}
 use Rattle.action_stages.specs.Applying.{test_answer}
 use Rattle.action_stages.specs.Bodies.{AreCodesIn}
 use Rattle.world_store.specs.StoryPlay.{coded_story}
+use Rattle.action_stages.proofs.Running.{told_at}
 
 -- among codes of which one is this there is one at least
 some_there : (judged : List Judged) (n : ℕ) (j : Judged) → slice_get judged n ≡ Some j → (left : ℕ) × (length judged ≡ suc left)
 some_there [] n j there = absurd cc
 some_there (one ∷ judged) n j there = (length judged, refl)
-
-told_at : (judged : List Judged) (n : ℕ) (j : Judged) → slice_get judged n ≡ Some j → slice_index_or (map code_told judged) n [] ≡ code_told j
-told_at [] n j there = absurd cc
-told_at (k ∷ judged) zero j there = let same : k ≡ j = cc in ap code_told same
-told_at (k ∷ judged) (suc n) j there = told_at judged n j there
 
 module _ (fixed : Fixed) (judged : List Judged) (now : ActionNow) (w : World) (n : ℕ) (test : IsTestAt judged n 0) where
   abbrev c : Codes

@@ -9,23 +9,11 @@ ghost use Rattle.i7_conditions.specs.Words.{Word};
 use crate::action::Action;
 use crate::part::is_name;
 use i7_conditions::key_of;
+use play_meaning::standard_books::{
+    AFTER, BEFORE, CARRY_OUT, CHECK, EVERY_TURN, INSTEAD, REPORT, SCENE_BEGINS,
+};
 use std::alloc::{AllocError, Global};
 use world_meaning::{TextBytes, is_spelled};
-
-/// The numbers of the built-in rulebooks; `when play begins` and the scenes' stand between these and the author's.
-const BEFORE: u16 = 0;
-
-const INSTEAD: u16 = 1;
-
-const CHECK: u16 = 2;
-
-const CARRY_OUT: u16 = 3;
-
-const AFTER: u16 = 4;
-
-const REPORT: u16 = 5;
-
-const EVERY_TURN: u16 = 6;
 
 /// The rulebook that a word names alone.
 #[tactic(auto, unfolding(crate::specs::Books::book_of_word))]
@@ -150,7 +138,7 @@ fn own_said(rulebooks: &[TextBytes], scenes: u16, key: &[u8]) -> Option<u16>
     requires countable { 8 + 2 * scenes + length rulebooks.now ≤ 65535 }
     ensures { result ≡ own_said rulebooks.now scenes key.now }
 {
-    let mut book = 8 + 2 * scenes;
+    let mut book = SCENE_BEGINS + 2 * scenes;
     let mut rest = rulebooks;
     while let [name, after @ ..] = rest {
         if is_spelled(key, name.as_slice()) {

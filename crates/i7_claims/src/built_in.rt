@@ -108,7 +108,8 @@ fn namings_from(
     kinds: &[KindRow<'_>],
     properties: &[PropertyRow<'_>],
 ) -> Result<Vec<Naming>, AllocError>
-    ensures { IfOk result (λ namings. namings.items ≡ namings_from (map (λ word. word.now) words.now) (map (λ kind. kind.0.now) kinds.now) (map (λ property. (property.0.now, option_map (λ second. second.now) property.1)) properties.now)) }
+    ensures { IfOk result (λ namings. namings.items ≡ namings_from (map (λ word. word.now) words.now) (map (λ kind. kind.0.now) kinds.now)
+        (map (λ property. (property.0.now, option_map (λ second. second.now) property.1)) properties.now)) }
 {
     let mut namings = Vec::new(alloc);
     add_reserved(alloc, &mut namings, words)?;

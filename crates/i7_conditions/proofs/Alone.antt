@@ -68,10 +68,10 @@ IsFormFound s words form (Read t) = IsTerm s words form t × (is_over t ≡ fals
 IsFormFound s words form TooMany = (t : Number) × IsTerm s words form t × (is_over t ≡ true)
 IsFormFound s words form Unread = (t : Number) → IsTerm s words form t → ⊥
 
-within : (n k : ℕ) → n ≤ k → nat_lt k n ≡ false
+pub within : (n k : ℕ) → n ≤ k → nat_lt k n ≡ false
 within n k le = grind (arith, nat_tests)
 
-past : (n k : ℕ) → k < n → nat_lt k n ≡ true
+pub past : (n k : ℕ) → k < n → nat_lt k n ≡ true
 past n k lt = grind (arith, nat_tests)
 
 literal_found : (s : Scope) (words : List Word) (found : Option ℤ) → literal_said words ≡ found → IsFormFound s words 0 (a_literal found)
@@ -108,7 +108,7 @@ property_found : (s : Scope) (words : List Word) (found : Option Parts) → spli
 property_found s words None at = λ t term. let of = of_property s words 2 t term refl in let same : None ≡ Some of.0 = sym at ∙ of.3 in absurd cc
 property_found s words (Some parts) at = property_by_found s words parts (property_named s parts.0) at refl
 
-over_either : (a b : ℕ) → (9 < a) ⊎ (8 < b) → (nat_lt 9 a || nat_lt 8 b) ≡ true
+pub over_either : (a b : ℕ) → (9 < a) ⊎ (8 < b) → (nat_lt 9 a || nat_lt 8 b) ≡ true
 over_either a b (inl lt) = rw (past a 9 lt) refl
 over_either a b (inr lt) = elim (cases_Bool (nat_lt 9 a)) [
   | inl is ↦ rw is refl

@@ -109,7 +109,7 @@ long_names s (first ∷ rest) lt =
       | inr isnt ↦ rw (isnt, longer) refl
     ]
 
-abbrev no_words : List Word
+abbrev pub no_words : List Word
 no_words = []
 
 take_none : (n : ℕ) → take n no_words ≡ no_words

@@ -14,7 +14,7 @@ use Rattle.i7_conditions.specs.Words.{Word}
 use Rattle.i7_conditions.specs.declared.found.Found.{Found}
 use Rattle.i7_conditions.specs.declared.found.Found.TheVariants.{Read, TooMany, Unread}
 use Rattle.i7_conditions.proofs.Alone.{term_found}
-use Rattle.i7_conditions.proofs.Cutting.{looked_at_end, looked_before}
+use Rattle.i7_conditions.proofs.Cutting.{looked_at_end, looked_before, no_words}
 
 -- ---- words that are one number alone
 
@@ -39,9 +39,6 @@ column_long s (word ∷ words) = omega (arith, length-append (column_of s words)
 -- a column tells what every number behind an operator begins with
 abbrev pub Tells : Scope → Column → List Word → Type 0
 Tells s column words = (k : ℕ) (word : Word) (rest : List Word) → drop k words ≡ word ∷ rest → is_operator word ≡ true → looked column (length rest) ≡ top s rest
-
-abbrev no_words : List Word
-no_words = []
 
 drop_none : (n : ℕ) → drop n no_words ≡ no_words
 drop_none zero = refl

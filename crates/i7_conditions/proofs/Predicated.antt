@@ -1,17 +1,16 @@
 -- What words are found to say of an object is what they say.
-use Rattle.std.proofs.Common.{◌≡◌, ℕ, ◌≤◌, ◌<◌, ◌⊎◌, true, false, ◌||◌, List, [], refl, sym, ap, ◌∙◌, subst, arith, inl, inr}
-use Rattle.std.specs.Prelude.{Option, Some, None, nat_lt}
-use Rattle.std.proofs.lemmas.Bool.Decides.{nat_tests}
-use Rattle.std.proofs.lemmas.Bool.{cases_Bool}
+use Rattle.std.proofs.Common.{◌≡◌, ◌≤◌, ◌<◌, ◌⊎◌, ◌||◌, List, [], refl, sym, ap, ◌∙◌, subst, arith}
+use Rattle.std.specs.Prelude.{Option, Some, None}
 use Rattle.world_meaning.specs.declared.place.Rel.{Rel}
 use Rattle.world_meaning.specs.declared.place.Rel.TheVariants.{In}
 use Rattle.play_meaning.specs.Trees as tree
+use Rattle.play_meaning.specs.declared.tree.object.Adjective.{Adjective}
 use Rattle.play_meaning.specs.declared.tree.object.Quality.{Quality}
-use Rattle.i7_conditions.specs.Adjectives.{quality_named}
+use Rattle.i7_conditions.specs.Adjectives.{adjective_named, quality_named}
 use Rattle.i7_conditions.specs.Describing.{Describes, IsDescriptionFound, adjectives_in, froms_in}
 use Rattle.i7_conditions.specs.Descriptions.{description_said}
 use Rattle.i7_conditions.specs.Objects.{IsObjectFound, Means, froms}
-use Rattle.i7_conditions.specs.Predicates.{Held, HeldByOne, One, Predicate, Same, Says, SaysHeld, SaysHeldByOne, SaysOne, SaysSame, SaysSo, from_held, from_one, from_same, held_by_one_said, held_said, is_deep, is_long, is_over, object_said, predicate_said, so_by}
+use Rattle.i7_conditions.specs.Predicates.{Held, HeldByOne, One, Predicate, Same, Says, SaysAdjective, SaysHeld, SaysHeldByOne, SaysOne, SaysSame, SaysSo, adjective_by, from_held, from_one, from_same, held_by_one_said, held_said, is_deep, is_long, is_over, object_said, predicate_said, so_by}
 use Rattle.i7_conditions.specs.Readings.{FirstOf, IsFoundAs, one}
 use Rattle.i7_conditions.specs.Relations.{relation_at}
 use Rattle.i7_conditions.specs.Scopes.{Scope}
@@ -21,12 +20,7 @@ use Rattle.i7_conditions.specs.declared.found.Found.TheVariants.{Read, TooMany, 
 use Rattle.i7_conditions.proofs.Described.{descriptions_found}
 use Rattle.i7_conditions.proofs.Listing.{Made, one_found, or_found}
 use Rattle.i7_conditions.proofs.Readings.{objects_found}
-
-within : (n k : ℕ) → n ≤ k → nat_lt k n ≡ false
-within n k le = grind (arith, nat_tests)
-
-past : (n k : ℕ) → k < n → nat_lt k n ≡ true
-past n k lt = grind (arith, nat_tests)
+use Rattle.i7_conditions.proofs.Alone.{over_either, past, within}
 
 object_as : (s : Scope) (words : List Word) (found : Found tree.Object) → IsObjectFound s words found → IsFoundAs (Means s words) is_deep found
 object_as s words (Read o) h = (h.0, within (froms o) 8 h.1)
@@ -35,13 +29,6 @@ object_as s words Unread h = h
 
 pub object_found : (s : Scope) (words : List Word) → IsFoundAs (Means s words) is_deep (object_said s words)
 object_found s words = object_as s words (object_said s words) (objects_found s words (object_said s words) refl)
-
-over_either : (a b : ℕ) → (9 < a) ⊎ (8 < b) → (nat_lt 9 a || nat_lt 8 b) ≡ true
-over_either a b (inl lt) = rw (past a 9 lt) refl
-over_either a b (inr lt) = elim (cases_Bool (nat_lt 9 a)) [
-  | inl is ↦ rw is refl
-  | inr isnt ↦ rw isnt (past b 8 lt)
-]
 
 description_as : (s : Scope) (words : List Word) (found : Found tree.Description) → IsDescriptionFound s words found → IsFoundAs (Describes s words) is_long found
 description_as s words (Read d) h = (h.0, rw (within (adjectives_in d) 9 h.1) (within (froms_in d) 8 h.2))
@@ -98,3 +85,10 @@ predicate_found s words =
     (or_found (SaysSame s words) (FirstOf (SaysHeld s words) (SaysHeldByOne s words)) is_over (one Same (object_said s words)) (from_held s (relation_at words))
     (one_found Same (Means s words) is_deep is_over (λ o. refl) (object_said s words) (object_found s words))
     (or_found (SaysHeld s words) (SaysHeldByOne s words) is_over (held_said s (relation_at words)) (held_by_one_said s (relation_at words)) (held_found s words (relation_at words) refl) (by_one_found s words (relation_at words) refl))))
+
+adjective_as : (s : Scope) (words : List Word) (found : Option Adjective) → adjective_named s words ≡ found → IsFoundAs (SaysAdjective s words) is_over (adjective_by found)
+adjective_as s words None e = λ p says. let same : None ≡ Some says.0 = sym e ∙ says.1 in absurd cc
+adjective_as s words (Some a) e = ((a, e, refl), refl)
+
+pub adjective_found : (s : Scope) (words : List Word) → IsFoundAs (SaysAdjective s words) is_over (adjective_by (adjective_named s words))
+adjective_found s words = adjective_as s words (adjective_named s words) refl

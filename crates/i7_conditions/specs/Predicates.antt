@@ -3,8 +3,9 @@ use Rattle.std.specs.Prelude.{◌≡◌, Bool, false, ◌||◌, nat_lt, List, Op
 use Rattle.world_meaning.specs.declared.place.Rel.{Rel}
 use Rattle.play_meaning.specs.Meant.{adjective_meant, description_meant, object_meant, quality_meant}
 use Rattle.play_meaning.specs.Trees as tree
+use Rattle.play_meaning.specs.declared.tree.object.Adjective.{Adjective}
 use Rattle.play_meaning.specs.declared.tree.object.Quality.{Quality}
-use Rattle.i7_conditions.specs.Adjectives.{quality_named}
+use Rattle.i7_conditions.specs.Adjectives.{adjective_named, quality_named}
 use Rattle.i7_conditions.specs.Describing.{Describes, adjectives_in, froms_in}
 use Rattle.i7_conditions.specs.Descriptions.{description_said}
 use Rattle.i7_conditions.specs.Marks.{marks_of}
@@ -70,6 +71,10 @@ SaysHeldByOne s words p = (parts : Rel × List Word) × (relation_at words ≡ S
 abbrev pub Says : Scope → List Word → Predicate → Type 0
 Says s words = FirstOf (SaysSo s words) (FirstOf (SaysOne s words) (FirstOf (SaysSame s words) (FirstOf (SaysHeld s words) (SaysHeldByOne s words))))
 
+-- behind `is not`, an adjective may have a `not` of its own, which denies the adjective alone
+abbrev pub SaysAdjective : Scope → List Word → Predicate → Type 0
+SaysAdjective s words p = (a : Adjective) × (adjective_named s words ≡ Some a) × (p ≡ So (adjective_meant a))
+
 -- ---- by their words
 
 abbrev pub object_said : Scope → List Word → Found tree.Object
@@ -78,6 +83,10 @@ object_said s words = put_together (marks_of s words)
 abbrev pub so_by : Option Quality → Found Predicate
 so_by None = Unread
 so_by (Some q) = Read (So (quality_meant q))
+
+abbrev pub adjective_by : Option Adjective → Found Predicate
+adjective_by None = Unread
+adjective_by (Some a) = Read (So (adjective_meant a))
 
 abbrev pub held_said : Scope → Option (Rel × List Word) → Found Predicate
 held_said s None = Unread

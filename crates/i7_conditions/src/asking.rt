@@ -2,7 +2,7 @@
 ghost use Rattle.std.specs.Prelude.{◌≡◌, ◌≤◌, length, Some, option_map, IfOk};
 ghost use Rattle.play_meaning.specs.Meant.{not_if};
 ghost use Rattle.play_meaning.specs.Trees as tree;
-ghost use Rattle.i7_conditions.specs.Asking.{asked_by, compared_by, denied_by, found_basic, found_clause, from_denied, from_numbers, from_object, of_numbers, of_object, of_scene, plain_said};
+ghost use Rattle.i7_conditions.specs.Asking.{asked_by, behind_denial, compared_by, denied_by, found_basic, found_clause, from_denied, from_numbers, from_object, of_adjective, of_numbers, of_object, of_scene, plain_said};
 ghost use Rattle.i7_conditions.specs.Clauses.{behind_not, compared, comparison_at, has_value, is_happening, scene_in, scene_named};
 ghost use Rattle.i7_conditions.specs.Joining.{found_number};
 ghost use Rattle.i7_conditions.specs.Objects.{found_meant};
@@ -17,7 +17,7 @@ use crate::joining::number_said;
 use crate::key::known;
 use crate::meaning::Meaning;
 use crate::object::object_said;
-use crate::predicate::{Predicate, plainly, predicate_said, said_of};
+use crate::predicate::{Predicate, adjective_said, plainly, predicate_said, said_of};
 use crate::scope::Scope;
 use crate::value::{Valuing, value_said};
 use crate::word::is_not;
@@ -221,7 +221,38 @@ pub fn behind_not(words: &[TextBytes]) -> Option<&[TextBytes]>
     }
 }
 
-/// `is not` in front of what is asked plainly.
+/// Whether an adjective, perhaps behind a `not` of its own, is so of an object.
+fn of_adjective(
+    alloc: Global,
+    scope: &Scope<'_>,
+    subject: &[TextBytes],
+    predicate: &[TextBytes],
+) -> Result<Found<Basic>, AllocError>
+    requires few { length (scope_of scope.now).repeats ≤ 255 }
+    ensures { IfOk result (λ found. found_basic found ≡ of_adjective (scope_of scope.now) subject.now predicate.now) }
+{
+    let object = object_said(alloc, scope, subject)?;
+    let said = adjective_said(alloc, scope, predicate)?;
+    Ok(of_object(object, said))
+}
+
+/// What is asked behind `is not`: plainly, or by an adjective that has a `not` of its own.
+fn behind_denial(
+    alloc: Global,
+    scope: &Scope<'_>,
+    subject: &[TextBytes],
+    rest: &[TextBytes],
+) -> Result<Found<Basic>, AllocError>
+    requires few { length (scope_of scope.now).repeats ≤ 255 }
+    ensures { IfOk result (λ found. found_basic found ≡ behind_denial (scope_of scope.now) subject.now rest.now) }
+{
+    match plain_said(alloc, scope, subject, rest)? {
+        Found::Unread => Ok(of_adjective(alloc, scope, subject, rest)?),
+        found => Ok(found),
+    }
+}
+
+/// `is not` in front of what is asked.
 fn denied_by(
     alloc: Global,
     scope: &Scope<'_>,
@@ -234,7 +265,7 @@ fn denied_by(
     match behind_not(predicate) {
         None => Ok(Found::Unread),
         Some(rest) => {
-            let found = plain_said(alloc, scope, subject, rest)?;
+            let found = behind_denial(alloc, scope, subject, rest)?;
             Ok(clause(found, true))
         }
     }

@@ -2,13 +2,14 @@
 //! holds it.
 ghost use Rattle.std.specs.Prelude.{◌≡◌, ◌≤◌, length, Some, IfOk};
 ghost use Rattle.play_meaning.specs.Meant.{adjective_meant, basic_meant, object_meant, quality_meant};
+ghost use Rattle.i7_conditions.specs.Adjectives.{adjective_named};
 ghost use Rattle.i7_conditions.specs.Descriptions.{found_described};
-ghost use Rattle.i7_conditions.specs.Predicates.{HeldByOne as IsHeldByOne, One as IsOne, Same as IsSame, Held as IsHeld, found_predicate, from_held, from_one, from_same, predicate_meant, predicate_said, said_of};
+ghost use Rattle.i7_conditions.specs.Predicates.{HeldByOne as IsHeldByOne, One as IsOne, Same as IsSame, Held as IsHeld, adjective_by, found_predicate, from_held, from_one, from_same, predicate_meant, predicate_said, said_of};
 ghost use Rattle.i7_conditions.specs.Readings.{one};
 ghost use Rattle.i7_conditions.specs.Relations.{relation_at};
 ghost use Rattle.i7_conditions.specs.Scopes.{scope_of};
 
-use crate::adjective::quality_named;
+use crate::adjective::{adjective_named, quality_named};
 use crate::description::description_said;
 use crate::found::Found;
 use crate::object::object_said;
@@ -145,5 +146,19 @@ pub fn predicate_said(
     match quality_named(alloc, scope, words)? {
         Some(quality) => Ok(Found::Read(Predicate::So(plainly(quality)))),
         None => from_one(alloc, scope, words),
+    }
+}
+
+/// What words say of an object that are an adjective, perhaps behind a `not` of its own.
+pub fn adjective_said(
+    alloc: Global,
+    scope: &Scope<'_>,
+    words: &[TextBytes],
+) -> Result<Found<Predicate>, AllocError>
+    ensures { IfOk result (λ found. found_predicate found ≡ adjective_by (adjective_named (scope_of scope.now) words.now)) }
+{
+    match adjective_named(alloc, scope, words)? {
+        Some(adjective) => Ok(Found::Read(Predicate::So(adjective))),
+        None => Ok(Found::Unread),
     }
 }

@@ -1,7 +1,7 @@
 -- What holds of the lines and synonyms that sentences tell, where nothing refuses the source for them.
 use Rattle.std.specs.Prelude.{◌≡◌, ◌≤◌, ℕ, ◌+◌, Bool, true, false, ◌&&◌, ◌==◌, nat_le, nat_lt, List, [], ◌∷◌, count_by, length, slice_get, Option, Some, None, ⊤}
-use Rattle.std.specs.Char.{to_ascii_lowercase}
 use Rattle.std.specs.List.{list_all}
+pub use Rattle.world_meaning.specs.Spelling.{is_small_byte}
 use Rattle.world_meaning.specs.declared.tale.Object.{Object}
 use Rattle.play_meaning.specs.Grammar.{Line, is_slot}
 use Rattle.command_grammar.specs.Synonyms.{words_said}
@@ -17,10 +17,6 @@ has_nouns slots (Some action) = slots == noun_number action.nouns
 -- a line of 32 tokens at most for one of these actions, with a slot for each of its nouns
 abbrev pub is_line_for : List Action → Line → Bool
 is_line_for actions line = has_nouns (count_by is_slot line.tokens) (slice_get actions line.action) && nat_le (length line.tokens) 32
-
--- no capital letter
-abbrev pub is_small_byte : ℕ → Bool
-is_small_byte byte = to_ascii_lowercase byte == byte
 
 -- a word in small letters that one of so many objects goes by
 abbrev pub is_synonym_of : ℕ → Synonym → Bool

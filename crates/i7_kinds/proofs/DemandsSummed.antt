@@ -4,6 +4,7 @@ use Rattle.std.proofs.Common.{refl, sym, ap, ◌∙◌, subst, arith, inl, inr, 
 use Rattle.std.specs.Prelude.{Decides, bytes_eq, fold, slice_set}
 use Rattle.std.proofs.lemmas.Slice.Eq.{bytes_eq-Decides}
 use Rattle.std.proofs.lemmas.Bool.{cases_Bool}
+use Rattle.i7_kinds.proofs.Rooted.{trans}
 use Rattle.world_meaning.proofs.Climbs.{climbs_decide}
 use Rattle.world_meaning.specs.Kinds.{Under, itself, is_under, room_kind}
 use Rattle.world_meaning.specs.declared.place.Rel.{Rel}
@@ -19,7 +20,6 @@ use Rattle.i7_kinds.specs.declared.knowns.Demanded.{Demanded}
 use Rattle.i7_kinds.specs.declared.knowns.Demanded.TheVariants.{Nothing, Deepest, Parted}
 use Rattle.i7_kinds.specs.declared.knowns.Known.{Known}
 use Rattle.i7_kinds.proofs.Fines.{fact_length}
-use Rattle.i7_kinds.proofs.UnderKinds.{trans}
 
 -- ---- what some claim says
 

@@ -40,6 +40,7 @@ use Rattle.i7_kinds.proofs.KindsDecided.{about_last, then_about}
 use Rattle.i7_kinds.proofs.OffPath.{first_length, length_from}
 use Rattle.i7_kinds.proofs.TaleExits.{object_made, same_object}
 use Rattle.i7_kinds.proofs.WrittenAbout.{described_shown, kind_made, kind_there, tale_is, untold}
+use Rattle.object_words.proofs.StringLemmas.{length_mapped}
 
 -- ---- statements that describe one object agree
 
@@ -178,13 +179,9 @@ module _ (parents : List (Option ℕ)) (knowns : List Known) (named : Named) (ta
 
 -- ---- how many objects there are
 
-mapped_length : {A B : Type 0} (f : A → B) (xs : List A) → length (map f xs) ≡ length xs
-mapped_length f [] = refl
-mapped_length f (x ∷ xs) = ap suc (mapped_length f xs)
-
-entries_counted : (mentions : List NameAt) → length (entries_of mentions) ≡ 13 + length mentions
+pub entries_counted : (mentions : List NameAt) → length (entries_of mentions) ≡ 13 + length mentions
 unfolding entries_of
-entries_counted mentions = omega (arith, mapped_length author_entry mentions)
+entries_counted mentions = omega (arith, length_mapped author_entry mentions)
 
 object_within : (m : Made) (entries : List Entry) (from o : ℕ) (object : Object) → slice_get (objects_of m from entries) o ≡ Some object → o < length entries
 object_within m [] from o object e = absurd cc

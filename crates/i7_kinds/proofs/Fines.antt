@@ -3,6 +3,7 @@
 use Rattle.std.proofs.Common.{◌≡◌, ℕ, zero, suc, ◌+◌, ◌-◌, ◌<◌, ◌≤◌, Bool, true, false, ◌&&◌, eqb, List, [], ◌∷◌, length, Option, refl, sym, ap, ◌∙◌, subst, arith, inl, inr, true≢false}
 use Rattle.std.specs.Prelude.{Some, None, fold, not, replicate, slice_set}
 use Rattle.std.proofs.lemmas.Bool.{eqb-true, cases_Bool, not-false}
+use Rattle.i7_kinds.proofs.Rooted.{trans}
 use Rattle.world_meaning.proofs.Climbs.{climbs_decide}
 use Rattle.world_meaning.specs.Kinds.{Under, itself, direction_kind, is_under, person_kind}
 use Rattle.i7_kinds.specs.KindClaims.{is_unknown, same_names, shows_unknown, unknown_kind}
@@ -16,7 +17,6 @@ use Rattle.i7_claims.specs.declared.claim.Placing.{Placing}
 use Rattle.i7_kinds.specs.declared.knowns.Demanded.{Demanded}
 use Rattle.i7_kinds.specs.declared.knowns.Demanded.TheVariants.{Nothing, Deepest, Parted}
 use Rattle.i7_kinds.specs.declared.knowns.Known.{Known}
-use Rattle.i7_kinds.proofs.UnderKinds.{trans}
 use Rattle.i7_claims.proofs.Lowest.{none_shown}
 
 -- the kind that an object has from the beginning

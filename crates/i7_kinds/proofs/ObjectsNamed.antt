@@ -137,7 +137,7 @@ object_told m (entry ∷ entries) from zero n object e h =
 object_told m (entry ∷ entries) from (suc o) n object e h = object_told m entries (from + 1) o n object (omega (arith, e)) h
 
 -- the kind of what is known at a number
-kind_known : (knowns : List Known) (o : ℕ) → kind_at (kinds_of knowns) o ≡ kind_of (known_at knowns o)
+pub kind_known : (knowns : List Known) (o : ℕ) → kind_at (kinds_of knowns) o ≡ kind_of (known_at knowns o)
 kind_known [] o = refl
 kind_known (known ∷ knowns) zero = refl
 kind_known (known ∷ knowns) (suc o) = kind_known knowns o

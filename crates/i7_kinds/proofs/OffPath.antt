@@ -5,6 +5,7 @@ use Rattle.std.proofs.lemmas.Bool.{cases_lt, eqb-true, eqb-false, not-true, not_
 use Rattle.std.proofs.lemmas.List.{get_or-replicate, get_or-set_other, get_or-set_same, length-replicate, length-set}
 use Rattle.std.proofs.Math.ListN.{get_or-append}
 use Rattle.std.proofs.Math.Seq.{get_or-append_right}
+use Rattle.i7_kinds.proofs.Rooted.{trans}
 use Rattle.world_meaning.proofs.Climbs.{climbs_decide}
 use Rattle.world_meaning.specs.Kinds.{Under, itself, direction_kind, is_under, person_kind, room_kind}
 use Rattle.i7_claims.proofs.Lowest.{lowest_is}
@@ -24,7 +25,7 @@ use Rattle.i7_kinds.specs.declared.knowns.Demanded.TheVariants.{Nothing, Deepest
 use Rattle.i7_kinds.specs.declared.knowns.Known.{Known}
 use Rattle.i7_kinds.proofs.Bounds.{counted-source}
 use Rattle.i7_kinds.proofs.FirstShown.{shown_on, two_places}
-use Rattle.i7_kinds.proofs.UnderKinds.{comparable, trans}
+use Rattle.i7_kinds.proofs.UnderKinds.{comparable}
 
 -- ---- what is demanded of an object, and the deepest of that
 

@@ -1,6 +1,6 @@
 -- The kinds of a tale have just the properties that sentences may say of their objects.
 use Rattle.std.proofs.Common.{◌≡◌, ℕ, zero, suc, ◌+◌, ◌≤◌, ◌<◌, Bool, true, false, ◌||◌, ◌&&◌, List, [], ◌∷◌, ◌++◌, length, map, Option, refl, sym, ap, ◌∙◌, subst, length-append, arith, inl, inr, ◌⊎◌, ⊎_elim, true≢false}
-use Rattle.std.specs.Prelude.{◌==◌, Some, None, Decides, Result, fold, slice_get}
+use Rattle.std.specs.Prelude.{◌==◌, Some, None, Decides, Result, slice_get}
 use Rattle.std.specs.List.{list_all, list_any}
 use Rattle.std.proofs.lemmas.Bool.{eqb-true, eq-eqb, ltb-true, cases_Bool, and_parts}
 use Rattle.std.proofs.lemmas.List.Folds.{list_any-append}
@@ -16,12 +16,12 @@ use Rattle.i7_claims.specs.Sorts.{built_in_either_ors, names_as, property_names}
 use Rattle.i7_claims.specs.Statements.{named_by, stated_by}
 use Rattle.i7_claims.specs.declared.claim.Claim.{Claim}
 use Rattle.i7_claims.specs.declared.claim.Fact.{Fact}
-use Rattle.i7_claims.specs.declared.claim.Fact.TheVariants.{CanBe, HasNumber, HasValue, Lies}
+use Rattle.i7_claims.specs.declared.claim.Fact.TheVariants.{CanBe, HasNumber, HasValue}
 use Rattle.i7_claims.specs.declared.sorts.Sort.TheVariants as sort
 use Rattle.i7_kinds.specs.Actions.{actions_said}
 use Rattle.i7_kinds.specs.Grants.{built_in_bases, first_base, flag_of, flags_from, givens_in, givens_of, kind_given, kinds_given, other_bases, rising_of}
 use Rattle.i7_kinds.specs.Judged.{AreJudged, Refusal, names_nothing, Shows, knowns_said, scope_said}
-use Rattle.i7_kinds.specs.KindClaims.{IsUnknown, declared_by, flags_by, givens_by, kind_names, numbers_by, parents_of, value_kinds_by, with_count, with_count_of}
+use Rattle.i7_kinds.specs.KindClaims.{IsUnknown, declared_by, flags_by, givens_by, kind_names, numbers_by, parents_of, value_kinds_by}
 use Rattle.i7_kinds.specs.PropertiesKept.{PropertiesAreKept, properties_in}
 use Rattle.i7_kinds.specs.RefusalsShown.{HasProperty}
 use Rattle.i7_kinds.specs.Suits.{can_be, kinds_in}
@@ -32,7 +32,7 @@ use Rattle.i7_kinds.proofs.Contrary.{IsAmong, any_from, any_to}
 use Rattle.i7_kinds.proofs.Granting.{among_rising, either_ors_behind, flags_counted}
 use Rattle.i7_kinds.proofs.Judged.{judged}
 use Rattle.i7_kinds.proofs.KindScans.{kind_names_counted, parents_are_kinds}
-use Rattle.i7_kinds.proofs.Rooted.{number_there}
+use Rattle.i7_kinds.proofs.Rooted.{counts_grow, number_there}
 use Rattle.i7_kinds.proofs.WrittenAbout.{tale_is, untold}
 use Rattle.i7_kinds.proofs.WrongKinds.{property_decides}
 
@@ -112,16 +112,8 @@ past [] i le = refl
 past (x ∷ xs) zero le = absurd (omega (arith, le))
 past (x ∷ xs) (suc i) le = past xs i (omega (arith, le))
 
-count_grows : (claims : List Claim) (n : ℕ) → n ≤ fold with_count_of n claims
-count_grows [] n = omega arith
-count_grows (c ∷ claims) n = omega (arith, count_grows claims (with_count n c.fact), one_more c.fact n)
-  where
-    one_more : (f : Fact) (n : ℕ) → n ≤ with_count n f
-    one_more (Lies l) n = omega arith
-    one_more _ n = omega arith
-
-parents_many : (claims : List Claim) → 10 ≤ length (parents_of (kind_names claims) claims)
-parents_many claims = omega (arith, parents_are_kinds (kind_names claims) claims, count_grows claims 10)
+pub parents_many : (claims : List Claim) → 10 ≤ length (parents_of (kind_names claims) claims)
+parents_many claims = omega (arith, parents_are_kinds (kind_names claims) claims, counts_grow claims 10)
 
 bases_many : (claims : List Claim) → length built_in_bases ≤ length (flags_by claims)
 unfolding built_in_bases built_in_either_ors

@@ -26,16 +26,14 @@ use Rattle.i7_kinds.proofs.Fines.{AreFine, base, kind_few, knowns_counted, known
 use Rattle.i7_kinds.proofs.KindScans.{either_ors_few, kind_names_counted, kinds_small, numbers_few, parents_are_kinds, parents_few}
 use Rattle.i7_kinds.proofs.Placed.{places_small}
 use Rattle.i7_kinds.proofs.Valueless.{kinds_few}
-use Rattle.i7_kinds.proofs.Rooted.{counts_grow, number_there}
-
-pub kinds_many : (claims : List Claim) → 10 ≤ length (parents_of (kind_names claims) claims)
-kinds_many claims = omega (arith, counts_grow claims 10, parents_are_kinds (kind_names claims) claims)
+use Rattle.i7_kinds.proofs.Rooted.{number_there}
+use Rattle.i7_kinds.proofs.PropertiesKept.{parents_many}
 
 pub fine_of : (claims : List Claim) (keys : List (List ℕ)) → unknown_kind (kind_names claims) claims ≡ None → off_path (scope_of claims keys) claims ≡ None
     → AreFine (parents_of (kind_names claims) claims) (length (parents_of (kind_names claims) claims)) (knowns_of (scope_of claims keys) claims)
 fine_of claims keys unknown off =
     let names = kind_names claims in
-    knowns_fine (scope_of claims keys) (length (parents_of names claims)) claims (λ kind h. omega (arith, number_there names kind h, kind_names_counted claims, parents_are_kinds names claims)) (kinds_many claims) off unknown
+    knowns_fine (scope_of claims keys) (length (parents_of names claims)) claims (λ kind h. omega (arith, number_there names kind h, kind_names_counted claims, parents_are_kinds names claims)) (parents_many claims) off unknown
 
 small_kinds : (knowns : List Known) → ((o : ℕ) → kind_of (known_at knowns o) ≤ 100) → AreSmallKnowns knowns
 small_kinds [] h = tt
@@ -49,7 +47,7 @@ kinds_are_small parents knowns many few fine =
 flags_few : (claims : List Claim) → name_too_many claims ≡ None → length (declared_by claims).flags ≤ 100
 flags_few claims many =
     let sorts = earlier_none (too_many_as sort.EitherOr claims) _ many in
-    let counted = flags_counted (parents_of (kind_names claims) claims) (kinds_many claims) (givens_by claims) 0 built_in_bases (names_as sort.EitherOr claims) in
+    let counted = flags_counted (parents_of (kind_names claims) claims) (parents_many claims) (givens_by claims) 0 built_in_bases (names_as sort.EitherOr claims) in
     omega (arith, counted, either_ors_few claims sorts.0)
 
 -- nor a number property
@@ -57,7 +55,7 @@ sorts_few : (claims : List Claim) → name_too_many claims ≡ None → length (
 sorts_few claims many =
     let sorts = earlier_none (too_many_as sort.EitherOr claims) _ many in
     let numbers = earlier_none (too_many_as sort.Number claims) _ sorts.1 in
-    let counted = flags_counted (parents_of (kind_names claims) claims) (kinds_many claims) (givens_by claims) (length (flags_by claims)) [] (names_as sort.Number claims) in
+    let counted = flags_counted (parents_of (kind_names claims) claims) (parents_many claims) (givens_by claims) (length (flags_by claims)) [] (names_as sort.Number claims) in
     omega (arith, counted, numbers_few claims numbers.0)
 
 -- nor a list of values is too long
@@ -92,7 +90,7 @@ ready claims keys statements mentions within counted none =
       few_flags = flags_few claims many.1;
       few_numbers = sorts_few claims many.1;
       few_values = values_few claims many.1;
-      small_kinds = kinds_are_small s.parents knowns (kinds_many claims) (parents_few claims many.0) (fine_of claims keys fine.unknown off.0);
+      small_kinds = kinds_are_small s.parents knowns (parents_many claims) (parents_few claims many.0) (fine_of claims keys fine.unknown off.0);
       small_places = places_small keys claims s.parents knowns few (omega (arith, known)) (omega (arith, known, fine.few));
     }
 

@@ -17,6 +17,7 @@ use Rattle.i7_claims.specs.declared.claim.Fact.{Fact}
 use Rattle.i7_claims.specs.declared.claim.Fact.TheVariants.{Lies}
 use Rattle.i7_claims.proofs.Lowest.{none_shown}
 use Rattle.i7_kinds.proofs.KindScans.{kind_names_counted, parents_are_kinds}
+use Rattle.i7_kinds.proofs.NamesOnce.{get_pushed}
 
 -- ---- what was there stays
 
@@ -24,17 +25,11 @@ get_last : {X : Type 0} (xs : List X) (v : X) → slice_get (xs ++ v ∷ []) (le
 get_last [] v = refl
 get_last (x ∷ xs) v = get_last xs v
 
-get_old : {X : Type 0} (xs : List X) (v : X) (i : ℕ) (w : X) → slice_get (xs ++ v ∷ []) i ≡ Some w → ((i ≡ length xs) × (v ≡ w)) ⊎ (slice_get xs i ≡ Some w)
-get_old [] v zero w h = let same : v ≡ w = cc in inl (refl, same)
-get_old [] v (suc i) w h = absurd cc
-get_old (x ∷ xs) v zero w h = inr h
-get_old (x ∷ xs) v (suc i) w h = ⊎_elim (λ here. inl (ap suc here.0, here.1)) (λ old. inr old) (get_old xs v i w h)
-
 more : (S T : List (Option ℕ)) (x e : ℕ) → Under S x e → Under (S ++ T) x e
 more S T x e itself = itself
 more S T x e (above {parent = p} h u) = above (get_front S T x (Some p) h) (more S T p e u)
 
-trans : (S : List (Option ℕ)) (a b c : ℕ) → Under S a b → Under S b c → Under S a c
+pub trans : (S : List (Option ℕ)) (a b c : ℕ) → Under S a b → Under S b c → Under S a c
 trans S a b c itself v = v
 trans S a b c (above {parent = p} h u) v = above h (trans S p b c u v)
 
@@ -53,7 +48,7 @@ through S p x e f u same w =
     trans T x e f (more S (Some p ∷ []) x e u) (above last (more S (Some p ∷ []) p f w))
 
 still_none : (S : List (Option ℕ)) (p e : ℕ) → NoneAbove S e → (e ≡ length S → ⊥) → NoneAbove (S ++ Some p ∷ []) e
-still_none S p e none other q h = ⊎_elim (λ here. other here.0) (λ old. none q old) (get_old S (Some p) e (Some q) h)
+still_none S p e none other q h = ⊎_elim (λ here. other here.0) (λ old. none q old) (get_pushed S (Some p) e (Some q) h)
 
 ends_step : (S : List (Option ℕ)) (p : ℕ) → HasEnds S → (Under S p (length S) → ⊥) → HasEnds (S ++ Some p ∷ [])
 ends_step S p ends open_ended x =
@@ -97,7 +92,7 @@ abbrev RootsAlone : List (Option ℕ) → Type 0
 RootsAlone S = (i : ℕ) → slice_get S i ≡ Some None → i ≤ 2
 
 roots_step : (S : List (Option ℕ)) (p : ℕ) → RootsAlone S → RootsAlone (S ++ Some p ∷ [])
-roots_step S p roots i h = ⊎_elim (λ here. let other : Some p ≡ None = here.1 in absurd cc) (λ old. roots i old) (get_old S (Some p) i None h)
+roots_step S p roots i h = ⊎_elim (λ here. let other : Some p ≡ None = here.1 in absurd cc) (λ old. roots i old) (get_pushed S (Some p) i None h)
 
 roots_fact : (names : List (List ℕ)) (f : Fact) (S : List (Option ℕ)) → RootsAlone S → RootsAlone (with_parent names S f)
 roots_fact names (Lies l) S roots = roots_step S (number_in names l.parent) roots
@@ -141,7 +136,7 @@ abbrev AreBelow : ℕ → List (Option ℕ) → Type 0
 AreBelow n S = (i q : ℕ) → slice_get S i ≡ Some (Some q) → q < n
 
 below_step : (n : ℕ) (S : List (Option ℕ)) (p : ℕ) → p < n → AreBelow n S → AreBelow n (S ++ Some p ∷ [])
-below_step n S p lt below i q h = ⊎_elim (λ here. let same : p ≡ q = cc in subst (λ (o : ℕ). o < n) same lt) (λ old. below i q old) (get_old S (Some p) i (Some q) h)
+below_step n S p lt below i q h = ⊎_elim (λ here. let same : p ≡ q = cc in subst (λ (o : ℕ). o < n) same lt) (λ old. below i q old) (get_pushed S (Some p) i (Some q) h)
 
 below_fact : (names : List (List ℕ)) (n : ℕ) (f : Fact) (S : List (Option ℕ)) → length names ≤ n → is_unknown names f ≡ false → AreBelow n S → AreBelow n (with_parent names S f)
 below_fact names n (Lies l) S few h below = below_step n S (number_in names l.parent) (omega (arith, few, number_there names l.parent (not-false (has_name names l.parent) h))) below

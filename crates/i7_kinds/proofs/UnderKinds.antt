@@ -1,13 +1,10 @@
 -- What lies under what among the kinds of a source.
+
 use Rattle.std.proofs.Common.{◌≡◌, ℕ, true, false, List, ◌++◌, Option, refl, sym, ◌∙◌, subst, inl, inr, ◌⊎◌, ⊎_elim, true≢false}
 use Rattle.std.specs.Prelude.{Some, slice_get}
 use Rattle.std.proofs.lemmas.Bool.{false_from_ne_true}
 use Rattle.world_meaning.proofs.Climbs.{climbs_decide}
 use Rattle.world_meaning.specs.Kinds.{Under, itself, above, built_in_parents, direction_kind, door_kind, is_under, person_kind, room_kind, thing_kind}
-
-pub trans : (S : List (Option ℕ)) (a b c : ℕ) → Under S a b → Under S b c → Under S a c
-trans S a b c itself v = v
-trans S a b c (above {parent = p} h u) v = above h (trans S p b c u v)
 
 same_parent : (o : Option (Option ℕ)) (p q : ℕ) → o ≡ Some (Some p) → o ≡ Some (Some q) → p ≡ q
 same_parent o p q h k = cc

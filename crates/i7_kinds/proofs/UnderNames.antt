@@ -16,8 +16,7 @@ use Rattle.i7_kinds.specs.KindClaims.{is_unknown, kind_cycle, parents_of, same_n
 use Rattle.i7_kinds.specs.KindsMeant.{IsAbove, IsClaimed, LiesUnder, above, itself}
 use Rattle.i7_kinds.proofs.KindPlaces.{AreNew, AtOnePlace, author_kinds, as_many, behind, claim_at, claimed_at, front_or_behind, in_table, kinds_behind, kinds_once}
 use Rattle.i7_kinds.proofs.NamesOnce.{at_number, number_is, one_value, same_some}
-use Rattle.i7_kinds.proofs.Rooted.{HasEnds, authors, authors_behind, kinds_end}
-use Rattle.i7_kinds.proofs.UnderKinds.{trans}
+use Rattle.i7_kinds.proofs.Rooted.{HasEnds, authors, authors_behind, kinds_end, trans}
 
 -- ---- without a cycle two kinds that lie under each other are one
 

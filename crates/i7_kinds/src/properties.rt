@@ -10,10 +10,8 @@ use crate::objects::Makings;
 use crate::values::{Slot, Values, value_in};
 use i7_claims::Value;
 use std::alloc::{AllocError, Global};
+use world_meaning::standard_properties::DESCRIBED;
 use world_meaning::{Granted, KindNo, PROPERTIES, PropertyRow, is_under_one};
-
-/// The number of the property that the player begins without: described.
-const DESCRIBED: usize = 8;
 
 /// Whether a property is true by default of an object, being so of these kinds.
 fn begins_by_default(
@@ -25,7 +23,7 @@ fn begins_by_default(
 ) -> bool
     ensures { result ≡ begins_by_default parents.now object kind property true_of.now }
 {
-    is_under_one(parents, true_of, kind) && !(property == DESCRIBED && object == 0)
+    is_under_one(parents, true_of, kind) && !(property == DESCRIBED as usize && object == 0)
 }
 
 fn truth_or(value: Option<Value>, other: bool) -> bool

@@ -27,7 +27,7 @@ use Rattle.i7_conditions.specs.Values.{SaysValue, value_said}
 use Rattle.i7_conditions.specs.Words.{Word}
 use Rattle.i7_conditions.specs.declared.found.Found.{Found}
 use Rattle.i7_conditions.specs.declared.found.Found.TheVariants.{Read, TooMany, Unread}
-use Rattle.i7_conditions.proofs.Asked.{number_found}
+use Rattle.i7_conditions.proofs.Asked.{number_found, or_swapped}
 use Rattle.i7_conditions.proofs.Listing.{Made, MadeAt, MadeOfTwo, none_found, one_found, or_found, some_found, two_found}
 use Rattle.i7_conditions.proofs.Parted.{parted_found}
 use Rattle.i7_conditions.proofs.Predicated.{object_found}
@@ -140,12 +140,6 @@ becomes_found s subject behind =
     (or_found (Sets s subject behind) (SetsValue s subject behind) phrase_is_over (set_said s subject behind) (from_value s subject behind) (set_found s subject behind) (values_found s subject behind))))
 
 -- ---- the others
-
-or_swapped : (a b : Bool) → (b || a) ≡ (a || b)
-or_swapped true true = refl
-or_swapped true false = refl
-or_swapped false true = refl
-or_swapped false false = refl
 
 gives_found : (relation : Rel) (verb : List ℕ) (s : Scope) (words : List Word) → IsFoundAs (Gives relation verb s words) phrase_is_over (gives_said relation verb s words)
 gives_found relation verb s words =

@@ -16,6 +16,7 @@ use Rattle.i7_resolution.specs.SceneChangeList.{ChangeAt, placed}
 use Rattle.i7_resolution.specs.SceneScans.{edge_number, edge_of, mention_edge, twice_at}
 use Rattle.i7_resolution.specs.SourceScenes.{IsOf, IsTwice, OneOf}
 use Rattle.i7_resolution.proofs.ReadScenes.{same_scene}
+use Rattle.i7_sentences.proofs.Lowest.{lower_none}
 
 -- ---- numbers of begins and ends
 
@@ -63,10 +64,6 @@ none_seen k seen low is none = record {
   tells = λ scene edge there. true≢false (sym there ∙ ap (is_among (edge_number edge scene)) is);
   low = subst (IsLow (IsTwice k) []) (sym none) (low_nothing (IsTwice k));
 }
-
-lower_none : (low : Option ℕ) → lower_of low None ≡ low
-lower_none None = refl
-lower_none (Some low) = refl
 
 none_some : (n : ℕ) → None ≡ Some n → ⊥
 none_some n e = cc

@@ -6,7 +6,7 @@ use Rattle.std.proofs.lemmas.Grind.{reverse_onto}
 use Rattle.std.proofs.lemmas.List.{map-append, reverse-reverse}
 use Rattle.world_meaning.specs.declared.fault.FaultCode.{FaultCode}
 use Rattle.world_meaning.specs.declared.fault.FaultCode.TheVariants.{TooMany, UnknownName}
-use Rattle.i7_rules.proofs.Lows.{lowest_once, nowhere_there}
+use Rattle.i7_rules.proofs.Lows.{lowest_once}
 use Rattle.i7_rules.specs.Knowns.{Known}
 use Rattle.i7_sentences.specs.Lowest.{IsLowest, IsNowhere}
 use Rattle.i7_sentences.specs.declared.sentence.Sentence.{Sentence}
@@ -17,6 +17,7 @@ use Rattle.i7_resolution.specs.declared.source_texts.SourceText.{SourceText}
 use Rattle.i7_resolution.specs.declared.source_texts.TextsFound.{TextsFound}
 use Rattle.i7_resolution.specs.declared.source_texts.TextsFound.TheVariants as found
 use Rattle.i7_resolution.proofs.ReadTexts.{IsOneText}
+use Rattle.i7_sentences.proofs.Lowest.{nowhere_there}
 
 -- ---- texts
 

@@ -5,7 +5,7 @@ use Rattle.std.specs.List.{AllZip}
 use Rattle.std.proofs.lemmas.List.{reverse-reverse}
 use Rattle.world_meaning.specs.declared.fault.FaultCode.{FaultCode}
 use Rattle.world_meaning.specs.declared.fault.FaultCode.TheVariants.{UnknownName, WrongKind}
-use Rattle.i7_rules.proofs.Lows.{lowest_once, nowhere_there}
+use Rattle.i7_rules.proofs.Lows.{lowest_once}
 use Rattle.i7_rules.specs.Knowns.{Known}
 use Rattle.i7_rules.specs.RuleList.{RuleAt, rules_in}
 use Rattle.i7_sentences.specs.Lowest.{IsLowest, IsNowhere}
@@ -16,6 +16,7 @@ use Rattle.i7_resolution.specs.SourceListings.{All, AreFound, AreTold, IsListing
 use Rattle.i7_resolution.specs.declared.source_listings.ListingsFound.{ListingsFound}
 use Rattle.i7_resolution.specs.declared.source_listings.ListingsFound.TheVariants as found
 use Rattle.i7_resolution.proofs.ReadListings.{same_rule}
+use Rattle.i7_sentences.proofs.Lowest.{nowhere_there}
 
 -- ---- listings
 

@@ -5,7 +5,7 @@ use Rattle.std.specs.List.{AllZip, enumerate_from}
 use Rattle.std.proofs.lemmas.List.Elements.{All-head, All-tail}
 use Rattle.world_meaning.specs.declared.fault.FaultCode.{FaultCode}
 use Rattle.world_meaning.specs.declared.fault.FaultCode.TheVariants.{TooMany, Twice, UnknownName}
-use Rattle.i7_rules.proofs.Lows.{lowest_once, nowhere_there}
+use Rattle.i7_rules.proofs.Lows.{lowest_once}
 use Rattle.i7_rules.specs.Knowns.{Known}
 use Rattle.i7_sentences.specs.Lowest.{IsLowest, IsNowhere}
 use Rattle.i7_sentences.specs.declared.scene_change.SceneEdge.{SceneEdge}
@@ -19,6 +19,7 @@ use Rattle.i7_resolution.specs.SourceScenes.{All as Whole, AreFound, AreTold, Is
 use Rattle.i7_resolution.specs.declared.source_scenes.ScenesFound.{ScenesFound}
 use Rattle.i7_resolution.specs.declared.source_scenes.ScenesFound.TheVariants as found
 use Rattle.i7_resolution.proofs.ReadScenes.{IsOneCondition}
+use Rattle.i7_sentences.proofs.Lowest.{nowhere_there}
 
 abbrev refusal : FaultCode → ℕ → ScenesMeant
 refusal code line = Refused (record { code = code; line = line })

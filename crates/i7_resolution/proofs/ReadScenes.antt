@@ -38,7 +38,7 @@ use Rattle.i7_resolution.specs.declared.source_scenes.SoFar.{SoFar}
 abbrev pub IsOneCondition : Type 0
 IsOneCondition = (s : Scope) (words : List Word) (c d : Condition) → IsCondition s words c → IsCondition s words d → c ≡ d
 
-true_false : true ≡ false → ⊥
+pub true_false : true ≡ false → ⊥
 true_false e = cc
 
 pub same_scene : (a b : ℕ) → Some a ≡ Some b → a ≡ b

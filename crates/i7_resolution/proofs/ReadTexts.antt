@@ -1,5 +1,5 @@
 -- What is found of texts, with one more, and what is told of all of them.
-use Rattle.std.proofs.Common.{◌≡◌, ℕ, false, true, List, [], ◌∷◌, refl, sym, ◌∙◌, ap, subst}
+use Rattle.std.proofs.Common.{◌≡◌, ℕ, false, List, [], ◌∷◌, refl, sym, ◌∙◌, ap, subst}
 use Rattle.std.specs.Prelude.{Option, None, Some, reverse}
 use Rattle.world_meaning.specs.declared.fault.FaultCode.TheVariants.{TooMany, UnknownName}
 use Rattle.i7_conditions.specs.Readings.{IsFoundAs}
@@ -21,6 +21,7 @@ use Rattle.i7_resolution.specs.TextList.{TextAt, texts_in}
 use Rattle.i7_resolution.specs.TextScans.{IsSoFar, State, refused_or, so_far_told, state_of, with_found}
 use Rattle.i7_resolution.specs.declared.source_texts.SoFar.{SoFar}
 use Rattle.i7_resolution.specs.declared.source_texts.TextsFound.{TextsFound}
+use Rattle.i7_resolution.proofs.ReadScenes.{true_false}
 
 pub none_read : (k : Known) (state : State) → state ≡ record { texts = []; unknown = None; too_many = None } → IsSoFar k [] state
 none_read k state is = subst (IsSoFar k []) (sym is) (record { unknown = low_nothing (IsUnknown k); too_many = low_nothing (IsOver k); told = λ known within. tt })
@@ -28,9 +29,6 @@ none_read k state is = subst (IsSoFar k []) (sym is) (record { unknown = low_not
 -- pieces mean one text at most
 abbrev pub IsOneText : Type 0
 IsOneText = (s : Scope) (pieces : List TextPiece) (t u : tree.Text) → IsText s pieces t → IsText s pieces u → t ≡ u
-
-true_false : true ≡ false → ⊥
-true_false e = cc
 
 module _ (law : IsOneText) (k : Known) (t : TextAt) (before : List TextAt) where
   within_limits : (text : tree.Text) → Says k t.text text → text_is_over text ≡ false → (line : ℕ) → IsOver k t line → ⊥

@@ -1,15 +1,15 @@
 //! What a sentence says of a scene, once names are known: `Storm begins when the score is at least 1` (*Writing with Inform*,
 //! 10.3).
 ghost use Rattle.std.specs.Prelude.{◌≡◌, [], IfOk};
-ghost use Rattle.i7_conditions.specs.Clauses.{asks_over, scene_named};
+ghost use Rattle.i7_conditions.specs.Clauses.{asks_over};
 ghost use Rattle.i7_conditions.specs.Conditions.{IsCondition};
 ghost use Rattle.i7_conditions.specs.Conjoining.{found_condition};
 ghost use Rattle.i7_conditions.specs.Readings.{IsFoundAs, one};
 ghost use Rattle.i7_rules.specs.Knowns.{known_of, scope_among};
 ghost use Rattle.i7_resolution.specs.SceneChanges.{Tells, found_told, told_is_over, told_of};
 
-use i7_conditions::{Found, Scope, condition_of, scene_named};
-use i7_rules::Known;
+use i7_conditions::{Found, Scope, condition_of};
+use i7_rules::{Known, scene_of};
 use i7_sentences::SceneChange;
 use play_meaning::tree::Condition;
 use std::alloc::{AllocError, Global};
@@ -20,21 +20,6 @@ use world_meaning::TextBytes;
 pub struct SceneTold {
     pub scene: u8,
     pub condition: Condition,
-}
-
-/// The scene that words name.
-pub fn scene_of(
-    alloc: Global,
-    known: &Known<'_>,
-    words: &[TextBytes],
-) -> Result<Option<u8>, AllocError>
-    ensures { IfOk result (λ scene. scene ≡ scene_named (scope_among (known_of known.now) []) words.now) }
-{
-    let scope = Scope {
-        names: known.names,
-        repeats: &[],
-    };
-    Ok(scene_named(alloc, &scope, words)?)
 }
 
 /// What words ask, around which no repeat is open.

@@ -7,9 +7,8 @@ ghost use Rattle.i7_resolution.specs.SceneChangeList.{change_lent, changes_lent,
 ghost use Rattle.i7_resolution.specs.SceneScans.{edge_number, edge_of, mention_edge, twice_at};
 ghost use Rattle.i7_resolution.specs.SourceScenes.{IsTwice};
 
-use crate::scene_change::scene_of;
 use crate::scene_change_list::ChangeAt;
-use i7_rules::Known;
+use i7_rules::{Known, scene_of};
 use i7_sentences::{SceneEdge, lower_of};
 use std::alloc::{AllocError, Global};
 

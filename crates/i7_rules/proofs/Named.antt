@@ -11,6 +11,7 @@ use Rattle.i7_rules.specs.RuleList.{RuleAt, and_name, name_of, names_of, placed,
 use Rattle.i7_rules.specs.RuleScans.{IsLow, mention_name, named_twice, standard_mentions, twice_at}
 use Rattle.i7_rules.specs.SourceRules.{IsNamedTwice}
 use Rattle.i7_rules.proofs.Lows.{low_nothing, low_past, low_with}
+use Rattle.i7_sentences.proofs.Lowest.{lower_none}
 
 -- ---- names that are mentioned
 
@@ -60,10 +61,6 @@ none_named names low is none = record {
   same = λ other. ap (λ (all : List (List ℕ)). has all other) is ∙ all_mentioned [] standard_names other;
   low = subst (IsLow IsNamedTwice []) (sym none) (low_nothing IsNamedTwice);
 }
-
-lower_none : (low : Option ℕ) → lower_of low None ≡ low
-lower_none None = refl
-lower_none (Some low) = refl
 
 more_has : (names more : List (List ℕ)) (name : Option (List ℕ)) → ((other : List ℕ) → has names other ≡ has more other) → (other : List ℕ) → has (mention_name names name) other ≡ has (and_name name more) other
 more_has names more None same other = same other

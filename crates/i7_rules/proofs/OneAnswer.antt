@@ -22,11 +22,12 @@ use Rattle.i7_rules.specs.SourceRules.{AreFound, AreTold, IsMisplaced, IsNamedTw
 use Rattle.i7_rules.specs.declared.source_rules.RulesFound.{RulesFound}
 use Rattle.i7_rules.specs.declared.source_rules.RulesFound.TheVariants as whole
 use Rattle.i7_rules.specs.declared.source_rules.SourceRule.{SourceRule}
-use Rattle.i7_rules.proofs.Lows.{lowest_once, nowhere_there}
+use Rattle.i7_rules.proofs.Lows.{lowest_once}
 use Rattle.i7_rules.proofs.Once.{AreOnce}
 use Rattle.i7_rules.proofs.OneHead.{head_once}
 use Rattle.i7_rules.proofs.OneRule.{forth, same_lines}
 use Rattle.i7_rules.proofs.Rebuilt.{IsSame, body_again}
+use Rattle.i7_sentences.proofs.Lowest.{nowhere_there}
 
 -- ---- refusals
 

@@ -17,8 +17,8 @@ use Rattle.i7_patterns.specs.Aspects.{AsksOne}
 use Rattle.i7_rules.specs.Abouts.{Happens, IsAbout, IsScene, IsSubject, during, in_place}
 use Rattle.i7_rules.specs.Heads.{Head, IsAsked, IsBook, IsHead, IsMisplaced, head_is_over, head_is_right}
 use Rattle.i7_rules.specs.Knowns.{Known, scope_among}
-use Rattle.i7_rules.proofs.Lows.{both_ways}
 use Rattle.i7_rules.proofs.Once.{AreOnce}
+use Rattle.i7_sentences.proofs.Lowest.{both_ways}
 
 -- ---- rulebooks
 

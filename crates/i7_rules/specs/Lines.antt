@@ -43,11 +43,11 @@ is_over (Done is_instead phrase) = phrase_is_over phrase
 is_over (Begun block) = block_is_over block
 
 -- a repeat within eight others
-abbrev pub is_ninth : List Word → RulePhrase → Bool
+unfoldable pub is_ninth : List Word → RulePhrase → Bool
 is_ninth names p = is_some (name_given p.said) && nat_le 8 (length names)
 
 -- a text of over 65,535 bytes as it is written
-abbrev pub says_long : Spoken → Bool
+unfoldable pub says_long : Spoken → Bool
 says_long (spoken.Say pieces bytes) = nat_lt 65535 bytes
 says_long (spoken.EndStory (Some text)) = nat_lt 65535 (length text)
 says_long _ = false

@@ -14,31 +14,13 @@ use i7_actions::own_book_of;
 use i7_conditions::{Found, Scope, condition_of};
 use i7_patterns::Asked;
 use i7_sentences::{Rule, RuleBook};
+use play_meaning::standard_books::{
+    AFTER, BEFORE, CARRY_OUT, CHECK, EVERY_TURN, INSTEAD, PLAY_BEGINS, REPORT, SCENE_BEGINS,
+    SCENE_ENDS,
+};
 use play_meaning::tree::{Condition, Listing, Pattern, RuleHead};
 use std::alloc::{AllocError, Global};
 use world_meaning::TextBytes;
-
-/// The numbers of the rulebooks that heads name by themselves.
-const BEFORE: u16 = 0;
-
-const INSTEAD: u16 = 1;
-
-const CHECK: u16 = 2;
-
-const CARRY_OUT: u16 = 3;
-
-const AFTER: u16 = 4;
-
-const REPORT: u16 = 5;
-
-const EVERY_TURN: u16 = 6;
-
-const PLAY_BEGINS: u16 = 7;
-
-/// Those of the first scene; each further scene has the next two.
-const SCENE_BEGINS: u16 = 8;
-
-const SCENE_ENDS: u16 = 9;
 
 /// One of a scene's rulebooks, if the scene is there, where the first scene's has this number.
 fn numbered(first: u16, scene: Option<u8>) -> Option<u16>

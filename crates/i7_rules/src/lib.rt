@@ -16,6 +16,7 @@ mod source_rules;
 mod standard_names;
 mod step;
 
+pub use about::scene_of;
 pub use body::{BodyRead, body_of};
 pub use head::book_of_head;
 pub use known::Known;

@@ -72,6 +72,7 @@ fn nearest(names: &[TextBytes]) -> &[TextBytes]
 }
 
 /// Whether a phrase is a repeat within eight others, of which these are the names.
+#[tactic(auto, unfolding(crate::specs::Lines::is_ninth))]
 fn is_ninth(names: &[TextBytes], phrase: &RulePhrase) -> bool
     ensures { result ≡ is_ninth names.now phrase.now }
 {
@@ -79,6 +80,7 @@ fn is_ninth(names: &[TextBytes], phrase: &RulePhrase) -> bool
 }
 
 /// Whether a phrase says a text of more than 65,535 bytes, as it is written.
+#[tactic(auto, unfolding(crate::specs::Lines::says_long))]
 fn says_long(said: &Spoken) -> bool
     ensures { result ≡ says_long said.now }
 {

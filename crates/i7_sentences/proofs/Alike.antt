@@ -8,7 +8,7 @@ use Rattle.i7_sentences.specs.TextPieces.{are_spelled}
 use Rattle.i7_sentences.specs.ValueForms.{are_plural}
 use Rattle.i7_sentences.specs.Words.{word_of}
 
-and_false : (a b : Bool) → b ≡ false → (a && b) ≡ false
+pub and_false : (a b : Bool) → b ≡ false → (a && b) ≡ false
 and_false true b is = is
 and_false false b is = refl
 

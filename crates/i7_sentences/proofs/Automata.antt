@@ -229,7 +229,7 @@ body_between : (token : Token) (tokens : List Token) → runs class.Body Between
 unfolding body_step
 body_between token tokens = body_inside tokens
 
-and_false : (marks : Bool) → (marks && false) ≡ false
+pub and_false : (marks : Bool) → (marks && false) ≡ false
 and_false true = refl
 and_false false = refl
 

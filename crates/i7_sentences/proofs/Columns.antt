@@ -16,6 +16,7 @@ use Rattle.i7_sentences.specs.declared.form.Piece.{Piece}
 use Rattle.i7_sentences.specs.declared.form.Piece.TheVariants.{Word, Letter}
 use Rattle.i7_sentences.proofs.Lists.{last_part, get_here, get_before}
 use Rattle.i7_sentences.proofs.Ends.{Ended, ended}
+use Rattle.i7_sentences.proofs.Alike.{and_false}
 
 pub length-column : (pieces : List Piece) (tokens : List Token) → length (column_of pieces tokens) ≡ length tokens + 1
 length-column pieces [] = refl
@@ -174,13 +175,9 @@ none_nearest class state can tokens never =
 end_trans : (rest middle tokens : List Token) → IsEndOf rest middle → IsEndOf middle tokens → IsEndOf rest tokens
 end_trans rest middle tokens one two = record { front = two.front ++ one.front; parts = two.parts ∙ ap (λ ts. two.front ++ ts) one.parts ∙ sym (append_assoc two.front one.front rest) }
 
-and_no : (here can : Bool) → can ≡ false → (here && can) ≡ false
-and_no true can none = none
-and_no false can none = refl
-
 pub never_more : (piece : Piece) (pieces : List Piece) (tokens : List Token) → Never pieces tokens → Never (piece ∷ pieces) tokens
 never_more (Word keyword) pieces tokens never [] at_end = refl
-never_more (Word keyword) pieces tokens never (token ∷ rest) at_end = can_word keyword pieces token rest ∙ and_no (is_sign keyword token) (can_fit pieces rest) (never rest (end_trans rest (token ∷ rest) tokens (record { front = token ∷ []; parts = refl }) at_end))
+never_more (Word keyword) pieces tokens never (token ∷ rest) at_end = can_word keyword pieces token rest ∙ and_false (is_sign keyword token) (can_fit pieces rest) (never rest (end_trans rest (token ∷ rest) tokens (record { front = token ∷ []; parts = refl }) at_end))
 never_more (Letter class) pieces tokens never rest at_end = can_letter class pieces rest ∙ none_nearest class Start (can_fit pieces) rest (λ others at. never others (end_trans others rest tokens at at_end))
 
 pub never_none : (pieces : List Piece) (tokens : List Token) → Never pieces tokens → first_fit pieces tokens ≡ None

@@ -6,10 +6,10 @@ use Rattle.i7_lexer.specs.declared.token.Token.{Token}
 use Rattle.i7_sentences.specs.Cuts.{cut, cut_from}
 use Rattle.i7_sentences.specs.Pieces.{piece_len, more_len}
 
-one_taken : (n : ℕ) (token : Token) (tokens : List Token) → take (1 + n) (token ∷ tokens) ≡ token ∷ take n tokens
+pub one_taken : (n : ℕ) (token : Token) (tokens : List Token) → take (1 + n) (token ∷ tokens) ≡ token ∷ take n tokens
 one_taken n token tokens = grind (arith, common_steps)
 
-one_dropped : (n : ℕ) (token : Token) (tokens : List Token) → drop (1 + n) (token ∷ tokens) ≡ drop n tokens
+pub one_dropped : (n : ℕ) (token : Token) (tokens : List Token) → drop (1 + n) (token ∷ tokens) ≡ drop n tokens
 one_dropped n token tokens = grind (arith, common_steps)
 
 -- the pieces from a token on: what is left of its own, and the cut of the tokens behind it

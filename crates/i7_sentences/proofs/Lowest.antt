@@ -11,10 +11,10 @@ use Rattle.i7_sentences.proofs.Sameness.{all_there}
 pub none-some : {A : Type 0} (x : A) → None ≡ Some x → ⊥
 none-some x e = cc
 
-less : (a b : ℕ) → nat_lt a b ≡ true → a ≤ b
+pub less : (a b : ℕ) → nat_lt a b ≡ true → a ≤ b
 less a b is = grind (arith, common_steps, is)
 
-no_less : (a b : ℕ) → nat_lt a b ≡ false → b ≤ a
+pub no_less : (a b : ℕ) → nat_lt a b ≡ false → b ≤ a
 no_less a b is = grind (arith, common_steps, is)
 
 less_less : (a b c : ℕ) → nat_lt b a ≡ true → nat_lt c b ≡ true → nat_lt c a ≡ true
@@ -23,7 +23,7 @@ less_less a b c one two = grind (arith, common_steps, one, two)
 no_less_less : (a b c : ℕ) → nat_lt b a ≡ false → nat_lt c b ≡ false → nat_lt c a ≡ false
 no_less_less a b c one two = grind (arith, common_steps, one, two)
 
-at_most : (a b c : ℕ) → a ≤ b → b ≤ c → a ≤ c
+pub at_most : (a b c : ℕ) → a ≤ b → b ≤ c → a ≤ c
 at_most a b c low high = omega (arith, low, high)
 
 -- the lower of two lines, by whether the second is lower
@@ -73,17 +73,17 @@ abbrev LowOf : {X : Type 0} → (X → ℕ → Type 0) → List X → Option ℕ
 LowOf Bad xs None = IsNowhere Bad xs
 LowOf Bad xs (Some line) = IsLowest Bad xs line
 
-abbrev NoLower : {X : Type 0} → (X → ℕ → Type 0) → ℕ → X → Type 0
+abbrev pub NoLower : {X : Type 0} → (X → ℕ → Type 0) → ℕ → X → Type 0
 NoLower Bad line x = (at : ℕ) → Bad x at → line ≤ at
 
-abbrev Good : {X : Type 0} → (X → ℕ → Type 0) → X → Type 0
+abbrev pub Good : {X : Type 0} → (X → ℕ → Type 0) → X → Type 0
 Good Bad x = (line : ℕ) → Bad x line → ⊥
 
-good_no_lower : {X : Type 0} (Bad : X → ℕ → Type 0) (line : ℕ) (xs : List X) → All (Good Bad) xs → All (NoLower Bad line) xs
+pub good_no_lower : {X : Type 0} (Bad : X → ℕ → Type 0) (line : ℕ) (xs : List X) → All (Good Bad) xs → All (NoLower Bad line) xs
 good_no_lower Bad line [] good = All-nil (NoLower Bad line)
 good_no_lower Bad line (x ∷ xs) good = All-cons (NoLower Bad line) x xs (λ at bad. absurd (All-head (Good Bad) x xs good at bad)) (good_no_lower Bad line xs (All-tail (Good Bad) x xs good))
 
-lower_yet : {X : Type 0} (Bad : X → ℕ → Type 0) (low line : ℕ) (xs : List X) → low ≤ line → All (NoLower Bad line) xs → All (NoLower Bad low) xs
+pub lower_yet : {X : Type 0} (Bad : X → ℕ → Type 0) (low line : ℕ) (xs : List X) → low ≤ line → All (NoLower Bad line) xs → All (NoLower Bad low) xs
 lower_yet Bad low line [] less' all = All-nil (NoLower Bad low)
 lower_yet Bad low line (x ∷ xs) less' all = All-cons (NoLower Bad low) x xs (λ at bad. at_most low line at less' (All-head (NoLower Bad line) x xs all at bad)) (lower_yet Bad low line xs less' (All-tail (NoLower Bad line) x xs all))
 
@@ -137,13 +137,13 @@ none_found line_at Bad tells xs is = subst (LowOf Bad xs) is (low_is line_at Bad
 pub lowest_found : {X : Type 0} (line_at : X → Option ℕ) (Bad : X → ℕ → Type 0) → ((x : X) → Tells line_at Bad x) → (xs : List X) (line : ℕ) → lowest line_at xs ≡ Some line → IsLowest Bad xs line
 lowest_found line_at Bad tells xs line is = subst (LowOf Bad xs) is (low_is line_at Bad tells xs)
 
-nowhere_there : {X : Type 0} (Bad : X → ℕ → Type 0) (xs : List X) (line : ℕ) → IsNowhere Bad xs → IsLowest Bad xs line → ⊥
+pub nowhere_there : {X : Type 0} (Bad : X → ℕ → Type 0) (xs : List X) (line : ℕ) → IsNowhere Bad xs → IsLowest Bad xs line → ⊥
 nowhere_there Bad xs line nowhere is = all_there (Good Bad) is.before is.bad is.behind (subst (All (Good Bad)) is.place nowhere) line is.is_bad
 
-below : {X : Type 0} (Bad : X → ℕ → Type 0) (xs : List X) (a b : ℕ) → IsLowest Bad xs a → IsLowest Bad xs b → a ≤ b
+pub below : {X : Type 0} (Bad : X → ℕ → Type 0) (xs : List X) (a b : ℕ) → IsLowest Bad xs a → IsLowest Bad xs b → a ≤ b
 below Bad xs a b one two = all_there (NoLower Bad a) two.before two.bad two.behind (subst (All (NoLower Bad a)) two.place one.lowest) b two.is_bad
 
-both_ways : (a b : ℕ) → a ≤ b → b ≤ a → a ≡ b
+pub both_ways : (a b : ℕ) → a ≤ b → b ≤ a → a ≡ b
 both_ways a b low high = omega (arith, low, high)
 
 pub nowhere_none : {X : Type 0} (line_at : X → Option ℕ) (Bad : X → ℕ → Type 0) → ((x : X) → Tells line_at Bad x) → (xs : List X) → IsNowhere Bad xs → lowest line_at xs ≡ None

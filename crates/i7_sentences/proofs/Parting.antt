@@ -1,17 +1,11 @@
 -- Words parted at the first that is wanted.
-use Rattle.std.proofs.Common.{◌≡◌, ap, refl, ℕ, ◌+◌, Bool, true, false, List, [], ◌∷◌, drop, take, Option, Some, None, arith}
+use Rattle.std.proofs.Common.{◌≡◌, ap, refl, ◌+◌, Bool, true, false, List, [], ◌∷◌, Option, Some, None, arith}
 use Rattle.std.specs.List.{position_or_len}
-use Rattle.std.proofs.lemmas.Grind.{common_steps}
 use Rattle.i7_lexer.specs.declared.token.Token.{Token}
 use Rattle.i7_sentences.specs.HeadWords.{IsParted, behind_first, in_front_of}
 use Rattle.i7_sentences.specs.Keywords.{is_sign}
 use Rattle.i7_sentences.specs.declared.keyword.Keyword.{Keyword}
-
-one_taken : (n : ℕ) (token : Token) (tokens : List Token) → take (1 + n) (token ∷ tokens) ≡ token ∷ take n tokens
-one_taken n token tokens = grind (arith, common_steps)
-
-one_dropped : (n : ℕ) (token : Token) (tokens : List Token) → drop (1 + n) (token ∷ tokens) ≡ drop n tokens
-one_dropped n token tokens = grind (arith, common_steps)
+use Rattle.i7_sentences.proofs.Cutting.{one_dropped, one_taken}
 
 -- a word in front that isn't the one
 onto : (keyword : Keyword) (word : Token) (words front : List Token) (behind : Option (List Token))

@@ -19,6 +19,7 @@ use Rattle.i7_sentences.specs.declared.heard.HeardPart.{HeardPart}
 use Rattle.i7_sentences.specs.declared.sentence.Assertion.{Assertion}
 use Rattle.i7_sentences.proofs.Lowest.{lower_none}
 use Rattle.i7_sentences.proofs.ReadingWith.{ReadLater, ReadWith, found_later, found_with, later_is_found, later_not_found, not_both, read_same}
+use Rattle.i7_sentences.proofs.Automata.{and_false}
 
 abbrev as_found : Variant → List (List Token) → Found
 as_found variant letters = record { variant = variant; letters = letters }
@@ -112,17 +113,13 @@ stays : (kinds : List Words) (tokens : List Token) (found : Found) (part : Heard
 unfolding passed_on
 stays kinds tokens found part told is = rw (passed_so kinds tokens found part told ∙ is) told
 
-neither : (is_rule : Bool) → (is_rule && false) ≡ false
-neither true = refl
-neither false = refl
-
 pub said_stays : (kinds : List Words) (tokens : List Token) (found : Found) (said : Assertion) (literal : Option ℕ) → IsHeardAs kinds tokens (Some found) (record { heard = heard.Says said; bad_literal = literal })
     → IsHeardAs kinds tokens (passed_on kinds tokens found) (record { heard = heard.Says said; bad_literal = literal })
-said_stays kinds tokens found said literal told = stays kinds tokens found (record { heard = heard.Says said; bad_literal = literal }) told (neither (is_rule_form found.variant.form))
+said_stays kinds tokens found said literal told = stays kinds tokens found (record { heard = heard.Says said; bad_literal = literal }) told (and_false (is_rule_form found.variant.form))
 
 pub reserved_stays : (kinds : List Words) (tokens : List Token) (found : Found) (line : ℕ) (literal : Option ℕ) → IsHeardAs kinds tokens (Some found) (record { heard = heard.Reserved line; bad_literal = literal })
     → IsHeardAs kinds tokens (passed_on kinds tokens found) (record { heard = heard.Reserved line; bad_literal = literal })
-reserved_stays kinds tokens found line literal told = stays kinds tokens found (record { heard = heard.Reserved line; bad_literal = literal }) told (neither (is_rule_form found.variant.form))
+reserved_stays kinds tokens found line literal told = stays kinds tokens found (record { heard = heard.Reserved line; bad_literal = literal }) told (and_false (is_rule_form found.variant.form))
 
 pub other_stays : (kinds : List Words) (tokens : List Token) (found : Found) (part : HeardPart) → IsHeardAs kinds tokens (Some found) part → is_rule_form found.variant.form ≡ false → IsHeardAs kinds tokens (passed_on kinds tokens found) part
 other_stays kinds tokens found part told is = stays kinds tokens found part told (rw is refl)

@@ -187,7 +187,8 @@ fn lowest_value<'a, 'b>(
     columns: &mut ColumnStack,
 ) -> Result<Option<Reading<'a, 'b>>, AllocError>
     requires { signs.now ≡ table_of tokens.now }
-    ensures { IfOk result (λ found. option_map found_in found ≡ lowest_value (map (λ row. record { place = row.0; variant = record { form = row.1.0; pieces = row.1.1.now } }) rows.now) kinds.now tokens.now) }
+    ensures { IfOk result (λ found. option_map found_in found ≡ lowest_value (map (λ row. record { place = row.0; variant = record { form = row.1.0; pieces = row.1.1.now } }) rows.now)
+        kinds.now tokens.now) }
 {
     let mut rest = rows;
     while let [row, after @ ..] = rest {

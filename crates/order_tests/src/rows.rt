@@ -1,13 +1,12 @@
 //! Rulebooks of a few rules, whose order is told by hand.
 use crate::books::{at_most, ordered};
 use play_meaning::ActNo;
+use play_meaning::standard_books::INSTEAD;
 use play_meaning::tree::{Adjective, Aspect, Listing, Pattern, Quality, Side};
 use rule_order::{Front, Heading, ListingSentence, listings};
 use std::alloc::{AllocError, Global};
 use std::test::Fail;
 use world_meaning::{KindNo, Listed, ObjNo};
-
-const INSTEAD: u16 = 1;
 
 fn taking() -> Option<ActNo> {
     Some(ActNo::new(2))

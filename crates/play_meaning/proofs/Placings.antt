@@ -30,7 +30,7 @@ neither false false first second = refl
 neither true b first second = absurd (first refl)
 neither false true first second = absurd (second refl)
 
-not_either : (a b : Bool) → not (a || b) ≡ true → (a ≡ true) ⊎ (b ≡ true) → ⊥
+pub not_either : (a b : Bool) → not (a || b) ≡ true → (a ≡ true) ⊎ (b ≡ true) → ⊥
 not_either true b is other = absurd cc
 not_either false true is other = absurd cc
 not_either false false is (inl first) = absurd cc

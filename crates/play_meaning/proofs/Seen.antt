@@ -1,9 +1,8 @@
 -- What is computed of sight is what is said of chains.
-use Rattle.std.proofs.Common.{◌≡◌, ◌∙◌, ap, sym, refl, subst, ◌⊎◌, inl, inr, ◌↔◌, ℕ, zero, suc, ◌+◌, ◌<◌, ◌≤◌, Bool, true, false, List, [], ◌∷◌, arith, eq-eqb, eqb-true}
+use Rattle.std.proofs.Common.{◌≡◌, ◌∙◌, ap, sym, refl, ◌⊎◌, inl, inr, ◌↔◌, ℕ, zero, suc, ◌+◌, ◌<◌, ◌≤◌, Bool, true, false, List, [], ◌∷◌, arith, eq-eqb, eqb-true}
 use Rattle.std.proofs.lemmas.Bool.{eqb-false, and_parts, and_from, or_cases, or_left, or_right, not-true, not_from_false}
 use Rattle.std.specs.Prelude.{not, ◌&&◌, ◌||◌, ◌==◌, Option, None, Some, if◌then◌else◌}
 use Rattle.std.specs.List.{list_any, range_with_len}
-use Rattle.std.proofs.lemmas.Option.{same_Some, none-some}
 use Rattle.world_meaning.specs.Chains.{Encloses, IsChain, StandsIn, top_of}
 use Rattle.world_meaning.specs.Tale.{holder_in as holder_told}
 use Rattle.world_meaning.specs.Sight.{location_of as location_in, HasLight, IsInView, IsTouchable, IsVisible, IsVisibleAs, IsVisibleThing, Root, thing, room, direction, blocks_sight, blocks_touch}
@@ -12,20 +11,13 @@ use Rattle.play_meaning.specs.Seeing.{encloses, gives_light, has_light, is_held_
 use Rattle.play_meaning.specs.Settings.{Setting, lighted_flag, lit_flag, objects_of, thing_kind}
 use Rattle.play_meaning.specs.StoryWorlds.{IsWorldOf}
 use Rattle.play_meaning.specs.Worlds.{World, chain, holder_in, is_true_of, location_of, place_of}
+use Rattle.world_meaning.proofs.Chains.{one_chain}
 
 -- ---- chains
 
-pub one_chain : (place : ℕ → Option Place) (o : ℕ) (xs ys : List Place) → IsChain place o xs → IsChain place o ys → xs ≡ ys
-one_chain place o [] [] first second = refl
-one_chain place o [] (y ∷ ys) first second = absurd (none-some y (sym first ∙ second.0))
-one_chain place o (x ∷ xs) [] first second = absurd (none-some x (sym second ∙ first.0))
-one_chain place o (x ∷ xs) (y ∷ ys) first second =
-    let same : x ≡ y = same_Some x y (sym first.0 ∙ second.0) in
-    ap (λ step. step ∷ xs) same ∙ ap (λ steps. y ∷ steps) (one_chain place y.holder xs ys (subst (λ step. IsChain place step.holder xs) same first.1) second.1)
-
 -- ---- tests
 
-same_is : (a : Option ℕ) (n : ℕ) → is_same a (Some n) ≡ true → a ≡ Some n
+pub same_is : (a : Option ℕ) (n : ℕ) → is_same a (Some n) ≡ true → a ≡ Some n
 same_is None n is = absurd cc
 same_is (Some m) n is = ap Some (eqb-true m n is)
 
@@ -39,7 +31,7 @@ same_of (Some m) n is = same_number m n (some_is_number m n is)
     same_number : (m n : ℕ) → m ≡ n → (m == n) ≡ true
     same_number m n same = eq-eqb m n same
 
-any_is : (f : ℕ → Bool) (ns : List ℕ) → list_any f ns ≡ true → (n : ℕ) × (f n ≡ true)
+pub any_is : (f : ℕ → Bool) (ns : List ℕ) → list_any f ns ≡ true → (n : ℕ) × (f n ≡ true)
 any_is f [] is = absurd cc
 any_is f (n ∷ ns) is = elim (or_cases (f n) (list_any f ns) is) as (λ x. (k : ℕ) × (f k ≡ true)) [
   | inl here ↦ (n, here)

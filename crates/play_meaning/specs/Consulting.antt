@@ -11,32 +11,33 @@ use Rattle.play_meaning.specs.declared.outcome.Flow.{Flow}
 use Rattle.play_meaning.specs.declared.outcome.Flow.TheVariants.{GoesOn, NoDecision, Decides}
 use Rattle.play_meaning.specs.declared.outcome.Outcome.{Outcome}
 use Rattle.play_meaning.specs.declared.outcome.Outcome.TheVariants.{Success, Failure}
+use Rattle.play_meaning.specs.declared.standard_books.TheConstants.{AFTER, BEFORE, CARRY_OUT, CHECK, EVERY_TURN, INSTEAD, PLAY_BEGINS, REPORT}
 
 -- ---- the rulebooks' numbers; behind these the scenes' two each, and the author's
 
 abbrev pub before_book : ℕ
-before_book = 0
+before_book = BEFORE
 
 abbrev pub instead_book : ℕ
-instead_book = 1
+instead_book = INSTEAD
 
 abbrev pub check_book : ℕ
-check_book = 2
+check_book = CHECK
 
 abbrev pub carry_out_book : ℕ
-carry_out_book = 3
+carry_out_book = CARRY_OUT
 
 abbrev pub after_book : ℕ
-after_book = 4
+after_book = AFTER
 
 abbrev pub report_book : ℕ
-report_book = 5
+report_book = REPORT
 
 abbrev pub every_turn_book : ℕ
-every_turn_book = 6
+every_turn_book = EVERY_TURN
 
 abbrev pub play_begins_book : ℕ
-play_begins_book = 7
+play_begins_book = PLAY_BEGINS
 
 -- what a body that ends by itself decides
 abbrev pub default_of : ℕ → Option Outcome

@@ -4,6 +4,7 @@ use Rattle.std.specs.List.{range_with_len}
 pub use Rattle.world_meaning.specs.Kinds.{container_kind, device_kind, direction_kind, door_kind, man_kind, person_kind, room_kind, supporter_kind, thing_kind}
 use Rattle.world_meaning.specs.Placing.{Kinds}
 use Rattle.world_meaning.specs.declared.article.Article.{Article}
+use Rattle.world_meaning.specs.declared.standard_properties.TheConstants.{DESCRIBED, FIXED_IN_PLACE, LIGHTED, LIT, OPEN, OPENABLE, SCENERY, SWITCHED_ON, TRANSPARENT, VISITED, WEARABLE}
 
 pub record Setting : Type 0 where
   -- how many objects there are
@@ -31,37 +32,37 @@ pub record Setting : Type 0 where
 -- ---- the numbers of the built-in properties
 
 abbrev pub open_flag : ℕ
-open_flag = 0
+open_flag = OPEN
 
 abbrev pub openable_flag : ℕ
-openable_flag = 1
+openable_flag = OPENABLE
 
 abbrev pub transparent_flag : ℕ
-transparent_flag = 2
+transparent_flag = TRANSPARENT
 
 abbrev pub lit_flag : ℕ
-lit_flag = 3
+lit_flag = LIT
 
 abbrev pub lighted_flag : ℕ
-lighted_flag = 4
+lighted_flag = LIGHTED
 
 abbrev pub scenery_flag : ℕ
-scenery_flag = 5
+scenery_flag = SCENERY
 
 abbrev pub fixed_in_place_flag : ℕ
-fixed_in_place_flag = 6
+fixed_in_place_flag = FIXED_IN_PLACE
 
 abbrev pub wearable_flag : ℕ
-wearable_flag = 7
+wearable_flag = WEARABLE
 
 abbrev pub described_flag : ℕ
-described_flag = 8
+described_flag = DESCRIBED
 
 abbrev pub switched_on_flag : ℕ
-switched_on_flag = 9
+switched_on_flag = SWITCHED_ON
 
 abbrev pub visited_flag : ℕ
-visited_flag = 10
+visited_flag = VISITED
 
 -- the objects, by rising number
 abbrev pub objects_of : Setting → List ℕ

@@ -1,56 +1,57 @@
 -- The actions that every story has: their numbers, and what each asks for.
 use Rattle.std.specs.Prelude.{ℕ, Bool, true, false, List, [], ◌∷◌, slice_index_or}
+use Rattle.play_meaning.specs.declared.standard_actions.TheConstants.{CLOSING, DROPPING, EXAMINING, GOING, INSERTING, JUMPING, LOOKING, OPENING, PUTTING_ON, SWITCHING_OFF, SWITCHING_ON, TAKING, TAKING_INVENTORY, TAKING_OFF, WAITING, WEARING}
 use Rattle.world_meaning.specs.declared.needs.Needs.{Needs}
 use Rattle.world_meaning.specs.declared.needs.Slot.{Slot}
 use Rattle.world_meaning.specs.declared.needs.Slot.TheVariants.{Absent, Visible, Touched, Carried}
 
 abbrev pub looking : ℕ
-looking = 0
+looking = LOOKING
 
 abbrev pub examining : ℕ
-examining = 1
+examining = EXAMINING
 
 abbrev pub taking : ℕ
-taking = 2
+taking = TAKING
 
 abbrev pub dropping : ℕ
-dropping = 3
+dropping = DROPPING
 
 abbrev pub putting_on : ℕ
-putting_on = 4
+putting_on = PUTTING_ON
 
 abbrev pub inserting : ℕ
-inserting = 5
+inserting = INSERTING
 
 abbrev pub opening : ℕ
-opening = 6
+opening = OPENING
 
 abbrev pub closing : ℕ
-closing = 7
+closing = CLOSING
 
 abbrev pub going : ℕ
-going = 8
+going = GOING
 
 abbrev pub wearing : ℕ
-wearing = 9
+wearing = WEARING
 
 abbrev pub taking_off : ℕ
-taking_off = 10
+taking_off = TAKING_OFF
 
 abbrev pub taking_inventory : ℕ
-taking_inventory = 11
+taking_inventory = TAKING_INVENTORY
 
 abbrev pub waiting : ℕ
-waiting = 12
+waiting = WAITING
 
 abbrev pub jumping : ℕ
-jumping = 13
+jumping = JUMPING
 
 abbrev pub switching_on : ℕ
-switching_on = 14
+switching_on = SWITCHING_ON
 
 abbrev pub switching_off : ℕ
-switching_off = 15
+switching_off = SWITCHING_OFF
 
 abbrev pub asking : Slot → Slot → Bool → Needs
 asking noun second light = record { noun = noun; second = second; light = light; out_of_world = false }

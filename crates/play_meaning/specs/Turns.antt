@@ -10,6 +10,7 @@ use Rattle.play_meaning.specs.StandardActions.{looking}
 use Rattle.play_meaning.specs.Worlds.{next_turn, scene_of, set_scene}
 use Rattle.play_meaning.specs.declared.action.ActionNow.{ActionNow}
 use Rattle.play_meaning.specs.declared.scene.SceneNow.{SceneNow}
+use Rattle.play_meaning.specs.declared.standard_books.TheConstants.{SCENE_BEGINS, SCENE_ENDS}
 
 -- outside an action
 abbrev pub no_action : ActionNow
@@ -33,10 +34,10 @@ in_order (step ∷ steps) p = next (step p) (in_order steps)
 -- ---- scenes
 
 abbrev pub begins_book : ℕ → ℕ
-begins_book scene = 8 + 2 * scene
+begins_book scene = SCENE_BEGINS + 2 * scene
 
 abbrev pub ends_book : ℕ → ℕ
-ends_book scene = 9 + 2 * scene
+ends_book scene = SCENE_ENDS + 2 * scene
 
 abbrev pub set_and_follow : Bool → Game → ℕ → SceneNow → ℕ → Progress → Attempt Progress
 set_and_follow false g scene now book p = Ok p

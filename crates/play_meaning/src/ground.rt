@@ -167,7 +167,8 @@ pub trait GroundMut: Ground {
     /// Puts an object somewhere.
     fn put(&mut self, object: ObjNo, relation: Rel, holder: ObjNo) -> Result<(), WorldFault>
         ensures answer { Allows result (may_be_put (Self.fixed self.old).setting (Self.world self.old) object (record { relation = relation; holder = holder })) }
-        ensures world { Self.world self.new ≡ behind result (put_at (Self.fixed self.old).setting object (record { relation = relation; holder = holder }) (Self.world self.old)) (Self.world self.old) }
+        ensures world { Self.world self.new ≡ behind result (put_at (Self.fixed self.old).setting object (record { relation = relation; holder = holder }) (Self.world self.old))
+            (Self.world self.old) }
         ensures past { past self.new ≡ remembered result (Self.world self.old) (past self.old) }
         ensures fixed { Self.fixed self.new ≡ Self.fixed self.old };
 

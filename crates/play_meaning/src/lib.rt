@@ -21,6 +21,7 @@ mod phrase_laws;
 mod scene;
 mod sight_laws;
 pub mod standard_actions;
+pub mod standard_books;
 pub mod tree;
 mod way;
 mod work_laws;

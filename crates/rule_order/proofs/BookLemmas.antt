@@ -48,7 +48,7 @@ within f a zero b none = sym (none (a + b) (omega arith))
 within f a (suc n) zero none = ap f (from_none a)
 within f a (suc n) (suc b) none = within f (a + 1) n b (λ k more. none k (omega (arith, more))) ∙ ap f (one_on a b)
 
-from_zero : (a : ℕ) → 0 + a ≡ a
+pub from_zero : (a : ℕ) → 0 + a ≡ a
 from_zero a = omega arith
 
 pub told_book : (es : List Entry) (book : ℕ) → book_in (books_from es) book ≡ numbers_of book es

@@ -44,7 +44,7 @@ sorted_rise es sorted = rise_by es (λ i j d le in'. sorted_far goes_before (ran
 
 -- ---- the rules of one rulebook
 
-nat_same : (a b : ℕ) → (a == b) ≡ true → a ≡ b
+pub nat_same : (a b : ℕ) → (a == b) ≡ true → a ≡ b
 nat_same a b is = grind (arith, is)
 
 -- an entry has the key of its rule

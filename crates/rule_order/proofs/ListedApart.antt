@@ -10,6 +10,7 @@ use Rattle.rule_order.specs.Listings.{latest, listed_by, listed_from, listing_by
 use Rattle.rule_order.specs.declared.listing.Front.{Front}
 use Rattle.rule_order.specs.declared.listing.Front.TheVariants.{First, Last, Nowhere}
 use Rattle.rule_order.specs.declared.listing.ListingSentence.{ListingSentence}
+use Rattle.rule_order.proofs.BookLemmas.{from_zero}
 
 -- ---- what is there
 
@@ -76,9 +77,6 @@ listed_at ss n zero (first ∷ rules) rule at =
 listed_at ss n (suc j) (first ∷ rules) rule at =
     let there : (n + 1) + j ≡ n + suc j = omega arith in
     listed_at ss (n + 1) j rules rule at ∙ ap (λ m. listing_meant (latest listing.InOrder m 0 ss)) there
-
-from_zero : (j : ℕ) → 0 + j ≡ j
-from_zero j = omega arith
 
 about : (ss : List ListingSentence) (rules : List Rule) (j k : ℕ) (rule : Rule) → slice_get (listed_by ss rules) j ≡ Some rule → sentence_of rule.listed ≡ Some k → IsAbout j 0 k ss
 about ss rules j k rule at is =

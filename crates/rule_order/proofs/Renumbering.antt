@@ -15,6 +15,7 @@ use Rattle.play_meaning.specs.Settings.{Setting}
 use Rattle.rule_order.specs.Books.{IsInOrder}
 use Rattle.rule_order.proofs.Uniqueness.{counted, held}
 use Rattle.rule_order.specs.Handing.{AreTied, IsRenumbered, KeepsTies}
+use Rattle.rule_order.proofs.EntryLemmas.{nat_same}
 
 -- ---- each once
 
@@ -179,9 +180,6 @@ all_counted P (n ∷ ns) each =
 unequal : (m n : ℕ) → (m == n) ≡ false → m ≡ n → ⊥
 unequal m n two same = grind (arith, two, same)
 
-equal_by : (m n : ℕ) → (m == n) ≡ true → m ≡ n
-equal_by m n one = grind (arith, one)
-
 rule_of : (book n : ℕ) (rules : List Rule) (o : Option Rule) → slice_get rules n ≡ o → is_of_book book o ≡ true → (rule : Rule) × ((slice_get rules n ≡ Some rule) × (rule.book ≡ book))
 rule_of book n rules None at is = absurd cc
 rule_of book n rules (Some rule) at is = (rule, (at, same_book rule.book book (is_listed rule.listed) is))
@@ -192,7 +190,7 @@ module _ (s : Setting) (rules others : List Rule) (renewed old : ℕ → ℕ) (i
 
   not_before : (m n : ℕ) → IsOf m → IsOf n → (test : Bool) → (m == n) ≡ test → is_before s rules m n ≡ false → is_before s others (renewed m) (renewed n) ≡ false
   not_before m n of_m of_n true one h =
-      let same : m ≡ n = equal_by m n one in
+      let same : m ≡ n = nat_same m n one in
       ap (λ k. is_before s others (renewed m) (renewed k)) (sym same) ∙ never_before s others (renewed m)
   not_before m n of_m of_n false two h =
       let differ : m ≡ n → ⊥ = unequal m n two in

@@ -7,12 +7,7 @@ use play_meaning::standard_actions::{
     CLOSING, DROPPING, EXAMINING, GOING, INSERTING, JUMPING, LOOKING, OPENING, PUTTING_ON,
     SWITCHING_OFF, SWITCHING_ON, TAKING, TAKING_INVENTORY, TAKING_OFF, WAITING, WEARING,
 };
-
-const CHECK: u16 = 2;
-
-const CARRY_OUT: u16 = 3;
-
-const REPORT: u16 = 5;
+use play_meaning::standard_books::{CARRY_OUT, CHECK, REPORT};
 
 /// The rulebook and the action of each, by number from 1.
 pub const STANDARD_RULES: [(u16, u8); 61] = [

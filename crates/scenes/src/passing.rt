@@ -13,6 +13,7 @@ ghost use Rattle.scenes.specs.Passes.{IsSceneOf, IsTestIfSome, begins_now, ends_
 
 use action_stages::{Stage, follow, holds, set_scene};
 use play_meaning::SceneNow;
+use play_meaning::standard_books::{SCENE_BEGINS, SCENE_ENDS};
 use std::alloc::Global;
 use story_format::SceneEntry;
 use world_meaning::Abandon;
@@ -36,14 +37,14 @@ const ENDED: SceneNow = SceneNow {
 fn begins_book(scene: u8) -> u16
     ensures { result ≡ begins_book scene }
 {
-    8 + 2 * u16::from(scene)
+    SCENE_BEGINS + 2 * u16::from(scene)
 }
 
 /// The rulebook that is followed where a scene ends.
 fn ends_book(scene: u8) -> u16
     ensures { result ≡ ends_book scene }
 {
-    9 + 2 * u16::from(scene)
+    SCENE_ENDS + 2 * u16::from(scene)
 }
 
 /// The entry of a scene of the story, if it is there.

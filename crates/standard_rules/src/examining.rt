@@ -11,16 +11,17 @@ use crate::answer::{HostAnswer, said_if, saying, silence};
 use crate::asking::{is_of_kind, is_so};
 use crate::listing::things_seen;
 use crate::looking::described;
-use crate::numbers::SWITCHED_ON;
 use crate::texts::{add_list, at_the_start, with_name, within};
 use play_meaning::{ActionNow, Ground};
 use std::alloc::{AllocError, Global};
+use world_meaning::standard_properties::SWITCHED_ON;
 use world_meaning::{KindNo, ObjNo, Rel};
 use world_store::World;
 
 /// The noun, if it has a description.
 fn described_noun(world: &World, now: &ActionNow) -> Option<ObjNo>
-    ensures { MatchOption result (of_some now.now.noun (setting_of world.now.tables).has_description ≡ false) (λ noun. (now.now.noun ≡ Some noun) × ((setting_of world.now.tables).has_description noun ≡ true)) }
+    ensures { MatchOption result (of_some now.now.noun (setting_of world.now.tables).has_description ≡ false)
+        (λ noun. (now.now.noun ≡ Some noun) × ((setting_of world.now.tables).has_description noun ≡ true)) }
 {
     let noun = now.noun?;
     if world.has_description(noun) {
@@ -54,7 +55,8 @@ fn told_of(
     noun: Option<ObjNo>,
     things: &[ObjNo],
 ) -> Result<HostAnswer, AllocError>
-    ensures { IfOk result (λ answer. answer_of answer ≡ said_if (are_any things.now) (front.now ++ (name_of world.now Definite noun ++ (codes " is " ++ (names_of world.now Indefinite things.now ++ stop))))) }
+    ensures { IfOk result (λ answer. answer_of answer ≡ said_if (are_any things.now)
+        (front.now ++ (name_of world.now Definite noun ++ (codes " is " ++ (names_of world.now Indefinite things.now ++ stop))))) }
 {
     if let [] = things {
         return Ok(silence(alloc));

@@ -7,11 +7,12 @@ ghost use Rattle.world_store.specs.StorySettings.{setting_of};
 
 use crate::answer::{HostAnswer, putting, refused_if, trying};
 use crate::asking::{are_same, is_otherwise};
-use crate::numbers::{OPEN, look_round, player};
+use crate::numbers::{look_round, player};
 use crate::texts::refused_from_name;
 use play_meaning::ActionNow;
 use std::alloc::{AllocError, Global};
 use story_code::{door_beyond, room_beyond};
+use world_meaning::standard_properties::OPEN;
 use world_meaning::{ObjNo, Rel};
 use world_store::World;
 

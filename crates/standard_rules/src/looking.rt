@@ -7,10 +7,10 @@ ghost use Rattle.standard_rules.specs.Answers.{HasEffect, IsTold, answer_of, tel
 ghost use Rattle.world_meaning.specs.Texts.{said};
 
 use crate::answer::{HostAnswer, making, out_of_range, said, saying, silence};
-use crate::numbers::VISITED;
 use crate::texts::{Named, listed_if_any, with_name};
 use play_meaning::{ActionNow, Naming};
 use std::alloc::{AllocError, Global};
+use world_meaning::standard_properties::VISITED;
 use world_meaning::{Abandon, ObjNo};
 use world_store::World;
 

@@ -4,10 +4,10 @@ ghost use Rattle.standard_rules.specs.Answers.{HasEffect};
 
 use crate::answer::{HostAnswer, making, refused_if, saying};
 use crate::asking::{is_otherwise, is_so};
-use crate::numbers::{OPEN, OPENABLE};
 use crate::texts::{with_name, within};
 use play_meaning::ActionNow;
 use std::alloc::{AllocError, Global};
+use world_meaning::standard_properties::{OPEN, OPENABLE};
 use world_store::World;
 
 /// Check opening (the can't open unopenable rule): if the noun is not openable, say "You can't open that." instead.

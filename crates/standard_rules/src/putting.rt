@@ -4,11 +4,11 @@ ghost use Rattle.standard_rules.specs.Answers.{HasEffect};
 
 use crate::answer::{HostAnswer, putting, refused_if, saying};
 use crate::asking::{are_same, is_of_kind, is_otherwise};
-use crate::numbers::OPEN;
 use crate::texts::{refused_from_name, refused_with_name, with_names};
 use play_meaning::ActionNow;
 use std::alloc::{AllocError, Global};
 use story_code::encloses;
+use world_meaning::standard_properties::OPEN;
 use world_meaning::{KindNo, Rel};
 use world_store::World;
 

@@ -4,11 +4,11 @@ ghost use Rattle.standard_rules.specs.Answers.{HasEffect};
 
 use crate::answer::{HostAnswer, making, refused_if, saying};
 use crate::asking::{is_of_kind, is_otherwise, is_so};
-use crate::numbers::SWITCHED_ON;
 use crate::texts::{with_name, within};
 use play_meaning::ActionNow;
 use std::alloc::{AllocError, Global};
 use world_meaning::KindNo;
+use world_meaning::standard_properties::SWITCHED_ON;
 use world_store::World;
 
 /// Check switching on (the can't switch on non-devices rule): if the noun is not a device, say "You can't switch that."

@@ -4,11 +4,12 @@ ghost use Rattle.standard_rules.specs.Answers.{HasEffect};
 
 use crate::answer::{HostAnswer, putting, refused_if, said};
 use crate::asking::{are_same, is_had, is_of_kind, is_part, is_so};
-use crate::numbers::{FIXED_IN_PLACE, SCENERY, player};
+use crate::numbers::player;
 use crate::texts::refused_from_name;
 use play_meaning::ActionNow;
 use std::alloc::{AllocError, Global};
 use story_code::is_some_held;
+use world_meaning::standard_properties::{FIXED_IN_PLACE, SCENERY};
 use world_meaning::{KindNo, Rel};
 use world_store::World;
 

@@ -4,12 +4,13 @@ ghost use Rattle.standard_rules.specs.Answers.{HasEffect};
 
 use crate::answer::{HostAnswer, putting, refused_if, saying};
 use crate::asking::is_so;
-use crate::numbers::{WEARABLE, player};
+use crate::numbers::player;
 use crate::texts::{with_name, within};
 use play_meaning::ActionNow;
 use std::alloc::{AllocError, Global};
 use story_code::is_some_held;
 use world_meaning::Rel;
+use world_meaning::standard_properties::WEARABLE;
 use world_store::World;
 
 /// Check wearing (the can't wear what's not wearable rule): if the noun is not wearable, say "You can't wear that."

@@ -15,6 +15,7 @@ use Rattle.play_meaning.specs.SoundCodes.{loops_around}
 use Rattle.story_code.specs.Passes.{Mark, behind, closed_at, ends_well, if_so, is_allowed, is_nil, left_behind, look, marks_from, opened_by, stands_at, way_behind, with_mark}
 use Rattle.story_code.proofs.Places.{at_past}
 use Rattle.story_code.proofs.WalkLemmas.{size_of-positive}
+use Rattle.play_meaning.proofs.Served.{if_both}
 
 -- what a step of the pass found, by cases of the way
 abbrev pub Passed : Way → ℕ → ℕ → List Sort → List OpenLoop → List Instruction → Label → Type 0
@@ -30,10 +31,6 @@ Passed Ends p q ks ls rest l = l ≡ bare ls
 pub so_is : {A : Type 0} (b : Bool) (a c : A) → if_so b a ≡ Some c → (b ≡ true) × (c ≡ a)
 so_is true a c h = let e : c ≡ a = cc in (refl, e)
 so_is false a c h = let no : ⊥ = cc in absurd no
-
-if_is : {A : Type 0} (b : Bool) (o : Option A) (c : A) → (if b then o else None) ≡ Some c → (b ≡ true) × (o ≡ Some c)
-if_is true o c h = (refl, h)
-if_is false o c h = let no : ⊥ = cc in absurd no
 
 pub nil_is : {A : Type 0} (xs : List A) → is_nil xs ≡ true → xs ≡ []
 nil_is [] h = refl
@@ -76,10 +73,10 @@ leap_is p q to ls rest l false false e n h =
 passed : (w : Way) (p q : ℕ) (ks : List Sort) (ls : List OpenLoop) (rest : List Instruction) (l : Label) → way_behind w p q ks ls rest ≡ Some l → Passed w p q ks ls rest l
 passed Straight p q ks ls rest l h = let a = so_is _ (record { operands = ks; loops = ls }) l h in (not-true _ a.0, a.1)
 passed (Branch to) p q ks ls rest l h = let a = so_is _ (bare ls) l h in let b = and_parts _ _ a.0 in let c = and_parts _ _ b.1 in (nil_is ks b.0, (lt_is _ _ c.0, (not-true _ c.1, a.1)))
-passed (Leap to) p q ks ls rest l h = let a = if_is _ _ l h in (nil_is ks a.0, leap_is p q to ls rest l _ _ refl refl a.1)
-passed Opens p q ks ls [] l h = absurd (none_some l (if_is (is_nil ks) None l h).1)
+passed (Leap to) p q ks ls rest l h = let a = if_both _ _ l h in (nil_is ks a.0, leap_is p q to ls rest l _ _ refl refl a.1)
+passed Opens p q ks ls [] l h = absurd (none_some l (if_both (is_nil ks) None l h).1)
 passed Opens p q ks ls (n ∷ more) l h =
-    let a = if_is _ _ l h in let b = opened_is (way_of n) q ls l a.1 in
+    let a = if_both _ _ l h in let b = opened_is (way_of n) q ls l a.1 in
     (nil_is ks a.0, (n, (more, (b.0, (refl, (b.1.0, b.1.1))))))
 passed (Turns exit) p q ks ls rest l h =
     let a = so_is _ (bare ls) l h in let b = and_parts _ _ a.0 in let c = and_parts _ _ b.1 in let d = stands_is p exit ls c.0 in
@@ -103,7 +100,7 @@ step_by z p i rest l l' (Some ks) a n d e h = record { allowed = a; named = n; e
 step_is : (z : Sizes) (p : ℕ) (i : Instruction) (rest : List Instruction) (l l' : Label) → behind z p i rest l ≡ Some l' → Step z p i rest l l'
 unfolding behind is_allowed
 step_is z p i rest l l' h =
-    let a = if_is _ _ l' h in
+    let a = if_both _ _ l' h in
     let b = and_parts _ _ a.0 in
     let c = and_parts _ _ b.0 in
     step_by z p i rest l l' (operands_behind z.counts i l.operands) c.0 c.1 b.1 refl a.1

@@ -19,7 +19,7 @@ use Rattle.story_code.specs.Passes.{Mark, all_meet, answers, behind, closed_at, 
 use Rattle.story_code.proofs.Places.{HasAt, at_cases, has_whole, none_past_end}
 use Rattle.story_code.proofs.WalkLemmas.{size_of-positive}
 
-eq_same : (n : ℕ) → (n == n) ≡ true
+pub eq_same : (n : ℕ) → (n == n) ≡ true
 eq_same n = grind (arith, common_steps)
 
 same_loop-refl : (ls : List OpenLoop) → same_loop ls ls ≡ true

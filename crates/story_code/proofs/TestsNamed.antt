@@ -2,7 +2,7 @@
 use Rattle.std.proofs.Common.{◌≡◌, ◌∙◌, ap, sym, subst, ℕ, ◌+◌, ◌-◌, ◌<◌, ◌≤◌, Bool, true, false, ◌==◌, nat_lt, ◌⊎◌, List, [], ◌∷◌, length, drop, refl, Option, Some, None, inl, inr, arith}
 use Rattle.std.specs.List.{list_all}
 use Rattle.std.specs.Prelude.{◌&&◌, IsTrue, slice_get}
-use Rattle.std.proofs.lemmas.Bool.{and_parts, eq-eqb, eqb-true, lt-ltb, ltb-false, ltb-true, and_from}
+use Rattle.std.proofs.lemmas.Bool.{and_parts, eqb-true, lt-ltb, ltb-false, ltb-true, and_from}
 use Rattle.std.proofs.lemmas.Option.{same_Some}
 use Rattle.play_meaning.specs.Instructions.{at_place, size_of}
 use Rattle.play_meaning.specs.declared.instruction.Instruction.{Instruction}
@@ -16,11 +16,9 @@ use Rattle.story_code.specs.Together.{is_inside, is_one_of, is_test_inside, is_t
 use Rattle.story_code.proofs.Answered.{there_long}
 use Rattle.story_code.proofs.Exact.{spells_in}
 use Rattle.story_code.proofs.Fetched.{told}
+use Rattle.story_code.proofs.Passing.{eq_same}
 use Rattle.story_code.proofs.Places.{at_cases, at_past}
 use Rattle.story_code.proofs.WalkLemmas.{code_is_none, code_splits}
-
-eqb-refl : (n : ℕ) → (n == n) ≡ true
-eqb-refl n = eq-eqb n n refl
 
 is_false : IsTrue false → ⊥
 is_false isnt = absurd cc
@@ -106,7 +104,7 @@ module _ (judged : List Judged) where
         }
 
     inside_test : (loops : ℕ) (role : Use) → role ≡ Test loops → is_inside loops role ≡ true
-    inside_test loops role is = ap (is_inside loops) is ∙ eqb-refl loops
+    inside_test loops role is = ap (is_inside loops) is ∙ eq_same loops
 
     tests_are : (named : Option (ℕ × ℕ)) → IsTestOf judged named → is_test_of judged named ≡ true
     tests_are None is = refl
@@ -124,7 +122,7 @@ module _ (judged : List Judged) where
         let same : code_told j ≡ one.sound.code = told j one.sound in
         let names : name_their_tests judged (code_in j.bytes) ≡ true = ap named_in spelled ∙ each_named one.sound.code (λ place i at. one.tests place i (ap (λ code. at_place code place) same ∙ at)) in
         and_from _ _ (lt-ltb j.sizes.counts.objects 65536 one.few)
-        (and_from _ _ (ap (λ k. k == n) one.own ∙ eqb-refl n) (and_from _ _ (ap (λ k. k == length judged) one.all ∙ eqb-refl (length judged)) names))
+        (and_from _ _ (ap (λ k. k == n) one.own ∙ eq_same n) (and_from _ _ (ap (λ k. k == length judged) one.all ∙ eq_same (length judged)) names))
 
   -- ---- one by one
 

@@ -14,9 +14,9 @@ use Rattle.i7_claims.specs.declared.claim.Claim.{Claim}
 use Rattle.i7_conditions.specs.There.{AreThere, Counts, IsThere}
 use Rattle.i7_conditions.specs.declared.meaning.Meaning.{Meaning}
 use Rattle.i7_conditions.specs.declared.meaning.Meaning.TheVariants as meaning
+use Rattle.i7_kinds.proofs.DescriptionsSaid.{entries_counted}
 use Rattle.i7_kinds.proofs.Granting.{flags_counted}
 use Rattle.i7_kinds.proofs.KindScans.{kind_names_counted, parents_are_kinds}
-use Rattle.i7_kinds.proofs.Readiness.{kinds_many}
 use Rattle.i7_kinds.proofs.Bounds.{counted-source, earlier_none, first_none_both, frame_parts}
 use Rattle.i7_kinds.specs.Grants.{built_in_bases}
 use Rattle.i7_kinds.specs.Demands.{descriptions_of}
@@ -31,12 +31,13 @@ use Rattle.i7_kinds.specs.Actions.{actions_said, told_with}
 use Rattle.i7_kinds.specs.Tales.{or_refused, entries_of, faults_of, frame_refusal, limit_refusal, made_of, objects_of, refusal_of, scope_of, tale_said}
 use Rattle.i7_names.specs.SourceNames.{names_in, rulebooks_by, rulebooks_in, scene_count, scenes_by}
 use Rattle.i7_names.specs.There.{counts_in}
+use Rattle.i7_kinds.proofs.PropertiesKept.{parents_many}
 use Rattle.i7_names.proofs.Present.{names_there, plurals_there}
 use Rattle.i7_sentences.specs.ActionDeclarations.{actions_declared}
 use Rattle.i7_sentences.specs.declared.sentence.Sentence.{Sentence}
 use Rattle.story_file.proofs.Acted.{acted, actions_counted}
 use Rattle.story_file.proofs.Held.{few_by, meant_none}
-use Rattle.story_file.proofs.MadeObjects.{entries_counted, objects_counted}
+use Rattle.story_file.proofs.MadeObjects.{objects_counted}
 
 -- what sentences declare: what they claim, and their actions
 abbrev declared_of : List Sentence → Declared
@@ -126,11 +127,11 @@ many_kinds : (claims : List Claim) → length (kind_names claims) ≤ length (de
 many_kinds claims = omega (arith, kind_names_counted claims, parents_are_kinds (kind_names claims) claims)
 
 some_kinds : (claims : List Claim) → 0 < length (declared_by claims).kinds
-some_kinds claims = omega (arith, kinds_many claims)
+some_kinds claims = omega (arith, parents_many claims)
 
 many_flags : (claims : List Claim) → length (names_as sort.EitherOr claims) ≤ length (declared_by claims).flags
 many_flags claims =
-    omega (arith, flags_counted (parents_of (kind_names claims) claims) (kinds_many claims) (givens_by claims) 0 built_in_bases (names_as sort.EitherOr claims))
+    omega (arith, flags_counted (parents_of (kind_names claims) claims) (parents_many claims) (givens_by claims) 0 built_in_bases (names_as sort.EitherOr claims))
 
 counts_kept : (kinds : List (Option ℕ)) (givens : List Given) (from : ℕ) (claims : List Claim) (names : List (List ℕ))
     → map (λ (q : ValueKind). length q.names) (value_kinds_from kinds givens from claims names) ≡ counts_listed claims names

@@ -31,6 +31,7 @@ use Rattle.story_format.specs.Contents.{Contents}
 use Rattle.story_format.specs.Holding.{has_few_words, has_first_noun, is_line_of, is_number, nouns_needed}
 use Rattle.story_format.specs.Making.{worded, worded_at, worded_from}
 use Rattle.story_format.specs.RuleMaking.{noun_count}
+use Rattle.story_format.proofs.ActionLemmas.{standard_first}
 use Rattle.story_format.proofs.StoryLemmas.{all_at}
 use Rattle.story_file.specs.Meanings.{AreMeant, known_said}
 use Rattle.story_file.proofs.NounsAgree.{nouns_agree}
@@ -82,10 +83,6 @@ module _ (actions : List Action) (needs : List Needs) (agree : map (λ action. a
   lines_so (line ∷ lines) are =
       let t = and_parts (is_line_for actions line) (list_all (is_line_for actions) lines) are in
       and_from (is_line_of needs line) (list_all (is_line_of needs) lines) (line_so line t.0) (lines_so lines t.1)
-
-standard_first : list_all has_first_noun standard_needs ≡ true
-unfolding standard_needs
-standard_first = refl
 
 -- all actions are known where they are few
 all_known : (sentences : List Sentence) → length (actions_declared sentences) ≤ 184 → known_actions (actions_in sentences) ≡ actions_in sentences

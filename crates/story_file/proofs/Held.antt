@@ -44,9 +44,11 @@ use Rattle.i7_kinds.specs.declared.knowns.Known.{Known}
 use Rattle.i7_claims.specs.declared.sorts.Sort.TheVariants as sort
 use Rattle.i7_claims.specs.declared.statements.NumberedSentence.{NumberedSentence}
 use Rattle.i7_kinds.proofs.Bounds.{NoFaults, counted-source, earlier_none, first_none_both, frame_parts, unmapped, unrefused}
+use Rattle.i7_kinds.proofs.DescriptionsSaid.{entries_counted}
 use Rattle.i7_kinds.proofs.Fines.{AreFine, base, kind_few, knowns_counted}
 use Rattle.i7_kinds.proofs.Granting.{either_ors_behind}
 use Rattle.i7_kinds.proofs.KindScans.{either_ors_few, names_few, numbers_few, parents_few, value_kinds_few, variables_few}
+use Rattle.i7_kinds.proofs.ObjectsNamed.{kind_known}
 use Rattle.i7_kinds.proofs.Valueless.{HaveValues, kinds_few, kinds_have}
 use Rattle.i7_kinds.proofs.Placed.{AreSuited, IsSuited, places_counted, places_suited, places_tree, put_length}
 use Rattle.i7_claims.proofs.Ranged.{AreRanged, AreRangedSentences, source_ranged}
@@ -55,8 +57,8 @@ use Rattle.i7_kinds.proofs.Readiness.{fine_of}
 use Rattle.i7_kinds.proofs.Rooted.{authors_behind, authors_rooted}
 use Rattle.story_file.proofs.Acted.{IsKept, acted, kept_with}
 use Rattle.story_file.proofs.MadeDeclarations.{Behind, behind_of, declared_held, declared_is, declared_with, flags_with, kinds_many, kinds_with, numbers_with, starts_counted, suited_held, values_with}
-use Rattle.story_file.proofs.MadeObjects.{all_lead, all_placed, begins_held, entries_counted, kinds_counted, kinds_held, objects_kinds, objects_places, same_kinds, told}
-use Rattle.story_file.proofs.MadePlaces.{all_suited, all_whole, direction_is, direction_nowhere, kind_known, place_in_room, player_person, tree_with_player}
+use Rattle.story_file.proofs.MadeObjects.{all_lead, all_placed, begins_held, kinds_counted, kinds_held, objects_kinds, objects_places, same_kinds, told}
+use Rattle.story_file.proofs.MadePlaces.{all_suited, all_whole, direction_is, direction_nowhere, place_in_room, player_person, tree_with_player}
 use Rattle.story_format.specs.Holding.{has_few_words, has_short_texts, is_short, is_short_or_none}
 use Rattle.story_format.specs.Making.{worded, worded_from}
 use Rattle.story_file.proofs.LeadRooms.{lead_to_rooms}

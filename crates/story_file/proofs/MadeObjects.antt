@@ -1,4 +1,5 @@
 -- The objects of the tale that sentences mean are what their kinds allow.
+
 use Rattle.std.proofs.Common.{◌≡◌, ℕ, zero, suc, ◌+◌, ◌<◌, ◌≤◌, Bool, true, ltb, leb, List, [], ◌∷◌, ◌++◌, length, map, Option, Some, None, refl, sym, ap, subst, arith, inl, inr}
 use Rattle.std.specs.Prelude.{take}
 use Rattle.std.specs.List.{list_all}
@@ -141,10 +142,6 @@ objects_counted m o (entry ∷ entries) = ap suc (objects_counted m (o + 1) entr
 authors_counted : (mentions : List NameAt) → length (map author_entry mentions) ≡ length mentions
 authors_counted [] = refl
 authors_counted (at ∷ mentions) = ap suc (authors_counted mentions)
-
-pub entries_counted : (mentions : List NameAt) → length (entries_of mentions) ≡ 13 + length mentions
-unfolding entries_of
-entries_counted mentions = omega (arith, authors_counted mentions)
 
 pub begins_held : (m : Made) (rooms : List Bool) (mentions : List NameAt) → 13 + length mentions ≤ 1000 → is_under m.parents (kind_at m.kinds 0) 6 ≡ true → stands_in_room rooms (place_at m.places 0) ≡ true → ((o : ℕ) → 1 ≤ o → o ≤ 12 → IsDirectionAt m o)
     → begin_rightly m.parents rooms (objects_of m 0 (entries_of mentions)) ≡ true

@@ -2,6 +2,7 @@
 use Rattle.std.proofs.Common.{◌≡◌, ℕ, zero, suc, ◌+◌, ◌<◌, ◌≤◌, Bool, true, false, not, ◌&&◌, ◌||◌, List, [], ◌∷◌, length, drop, Option, Some, None, refl, sym, ap, ◌∙◌, subst, arith, inl, inr, true≢false}
 use Rattle.std.specs.Prelude.{slice_get}
 use Rattle.std.proofs.lemmas.Bool.{cases_Bool, and_from}
+use Rattle.i7_kinds.proofs.Rooted.{trans}
 use Rattle.world_meaning.proofs.Climbs.{climbs_decide}
 use Rattle.world_meaning.specs.Chains.{IsTree}
 use Rattle.world_meaning.specs.Kinds.{Under, built_in_parents, is_under}
@@ -16,8 +17,9 @@ use Rattle.i7_kinds.specs.Tales.{kind_at}
 use Rattle.i7_kinds.specs.declared.knowns.Known.{Known}
 use Rattle.i7_kinds.proofs.Fines.{AreFine, IsFine, base, fine_isnt_parted, kind_based}
 use Rattle.i7_kinds.proofs.Placed.{AreSuited, IsSuited, player_tree, put_at, room_is_author}
-use Rattle.i7_kinds.proofs.UnderKinds.{direction_and_thing, isnt_under, person_and_door, person_is_thing, room_and_thing, trans, with_others}
+use Rattle.i7_kinds.proofs.UnderKinds.{direction_and_thing, isnt_under, person_and_door, person_is_thing, room_and_thing, with_others}
 use Rattle.story_format.proofs.StoryLemmas.{get_dropped}
+use Rattle.i7_kinds.proofs.ObjectsNamed.{kind_known}
 
 -- ---- what is known of an object by its number
 
@@ -28,11 +30,6 @@ whole_at (known ∷ knowns) (suc o) h = whole_at knowns o h
 
 pub all_whole : (parents : List (Option ℕ)) (n : ℕ) (knowns : List Known) → AreFine parents n knowns → (o : ℕ) → is_parted_at knowns o ≡ false
 all_whole parents n knowns fine o = whole_at knowns o (fine_isnt_parted parents n (base o) (known_at knowns o).demanded (fine o))
-
-pub kind_known : (knowns : List Known) (o : ℕ) → kind_at (kinds_of knowns) o ≡ kind_of (known_at knowns o)
-kind_known [] o = refl
-kind_known (known ∷ knowns) zero = refl
-kind_known (known ∷ knowns) (suc o) = kind_known knowns o
 
 is_of_at : (parents : List (Option ℕ)) (knowns : List Known) (kind o : ℕ) → o < length knowns → is_of parents knowns kind o ≡ is_under parents (kind_of (known_at knowns o)) kind
 is_of_at parents [] kind o lt = absurd (omega (arith, lt))

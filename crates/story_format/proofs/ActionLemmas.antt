@@ -17,13 +17,13 @@ use Rattle.story_format.specs.RuleMaking.{action_entries, action_entry, mark_if,
 
 -- ---- how many there are
 
-standard_count : length standard_needs ≡ 16
+pub sixteen : length standard_needs ≡ 16
 unfolding standard_needs
-standard_count = refl
+sixteen = refl
 
 pub length_actions : (actions : List Needs) → length (action_entries actions) ≡ 16 + length actions
 unfolding action_entries
-length_actions actions = omega (arith, length-map (standard_needs ++ actions) action_entry, length-append standard_needs actions, standard_count)
+length_actions actions = omega (arith, length-map (standard_needs ++ actions) action_entry, length-append standard_needs actions, sixteen)
 
 -- ---- they are right
 
@@ -62,7 +62,7 @@ entries_right (needs ∷ actions) h =
     let t = and_parts (has_first_noun needs) (list_all has_first_noun actions) h in
     and_from (is_right_action (action_entry needs)) (list_all is_right_action (map action_entry actions)) (entry_right needs t.0) (entries_right actions t.1)
 
-standard_first : list_all has_first_noun standard_needs ≡ true
+pub standard_first : list_all has_first_noun standard_needs ≡ true
 unfolding standard_needs
 standard_first = refl
 

@@ -148,7 +148,7 @@ rising_short count next (n ∷ ns) le h k =
 abbrev pub are_bytes : List ℕ → Bool
 are_bytes ns = ltb (length ns) 256 && list_all (λ n. ltb n 256) ns
 
-byte_if : (count : ℕ) → count ≤ 100 → (n : ℕ) → is_below count n ≡ true → ltb n 256 ≡ true
+pub byte_if : (count : ℕ) → count ≤ 100 → (n : ℕ) → is_below count n ≡ true → ltb n 256 ≡ true
 byte_if count le n h = let lt : n < count = ltb-true _ _ h in lt-ltb _ _ (omega (arith, lt, le))
 
 pub rising_bytes : (count : ℕ) (ns : List ℕ) → count ≤ 100 → are_rising 0 ns ≡ true → list_all (is_below count) ns ≡ true → are_bytes ns ≡ true
@@ -238,7 +238,7 @@ properties_fit parents flags kind properties le h =
     let below = all_weaker (has_property parents flags kind) (is_below (length flags)) (λ n k. had_below parents flags kind n (slice_get flags n) refl k) properties t.1 in
     rising_bytes (length flags) properties le t.0 below
 
-step_few : (b : Bool) → cond b 1 0 ≤ 1
+pub step_few : (b : Bool) → cond b 1 0 ≤ 1
 step_few true = omega arith
 step_few false = omega arith
 

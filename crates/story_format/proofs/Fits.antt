@@ -1,9 +1,7 @@
 -- The tables of a tale have room in their bytes.
 use Rattle.std.proofs.Common.{◌≡◌, ℕ, zero, suc, ◌+◌, ◌*◌, ◌<◌, ◌≤◌, Bool, true, ◌&&◌, ltb, eqb, List, [], ◌∷◌, ◌++◌, length, map, Option, Some, None, refl, sym, ap, ◌∙◌, arith, inl, inr}
-use Rattle.std.specs.Prelude.{fold}
-use Rattle.std.specs.List.{list_any, list_all, flat_map}
-use Rattle.std.specs.Str.{bytes_eq}
-use Rattle.std.proofs.lemmas.Bool.{lt-ltb, ltb-true, leb-true, cases_Bool, and_from, and_parts}
+use Rattle.std.specs.List.{list_all, flat_map}
+use Rattle.std.proofs.lemmas.Bool.{lt-ltb, leb-true, cases_Bool, and_from, and_parts}
 use Rattle.std.proofs.lemmas.List.{length-append}
 use Rattle.std.proofs.lemmas.List.Folds.{list_all-append}
 use Rattle.world_meaning.specs.declared.article.Article.{Article}
@@ -21,7 +19,7 @@ use Rattle.world_meaning.specs.Standing.{are_well_placed, is_at_or_none, is_well
 use Rattle.world_meaning.specs.WellMade.{IsWellMade, has_right_exits, kinds_of, places_of}
 use Rattle.world_meaning.specs.declared.declared.Declared.{Declared}
 use Rattle.world_meaning.specs.declared.tale.Object.{Object}
-use Rattle.object_words.specs.Mentions.{mention, number_in}
+use Rattle.object_words.specs.Mentions.{number_in}
 use Rattle.code_table.specs.Origins.{Origin}
 use Rattle.command_grammar.specs.Synonyms.{words_said}
 use Rattle.command_grammar.specs.declared.synonym.Synonym.{Synonym}
@@ -37,28 +35,20 @@ use Rattle.story_format.specs.Layout.{entry_layout, way_layout, exits_layout, fi
 use Rattle.story_format.specs.Making.{Worded, worded, worded_from, code_bytes, code_count, described_in, numbers_of, entry_strings, strings_behind, strings_of, article_number, place_relation, place_holder, code_number, entry_of, entries_of, line_entry, line_strings, texts_named, ways_of, tables_with, values_of}
 use Rattle.world_meaning.specs.Relations.{relation_number}
 use Rattle.story_format.specs.Holding.{is_line_of, is_of, named_by, has_few_words, has_short_texts, is_short, is_short_or_none}
+use Rattle.story_format.proofs.ActionLemmas.{sixteen}
 use Rattle.story_format.proofs.StoryLemmas.{all_both, all_mapped, all_weaker, few_begin, three}
 use Rattle.story_format.proofs.Known.{all_named_small, named_small}
 use Rattle.story_format.proofs.MadeValues.{values_fit}
-use Rattle.story_format.proofs.OrderLemmas.{mention_new, mention_old}
 use Rattle.story_format.proofs.AboutRules.{small_names}
-use Rattle.story_format.proofs.DeclaredLemmas.{all_own_fit, are_bytes, declared_parts, few_kinds, fits_own, is_word, world_fits}
-use Rattle.story_format.proofs.GrammarLemmas.{lines_fit, sixteen}
+use Rattle.story_format.proofs.DeclaredLemmas.{all_own_fit, are_bytes, byte_if, declared_parts, few_kinds, fits_own, is_word, world_fits}
+use Rattle.story_format.proofs.GrammarLemmas.{lines_fit}
 use Rattle.story_format.proofs.WordFacts.{all_mentioned, is_good, words_good}
 use Rattle.story_format.proofs.EntryLemmas.{objects_back, objects_in, rooms_lead}
 use Rattle.story_format.proofs.RuleLemmas.{AreRightBooks, rule_tables_fit}
 use Rattle.story_format.proofs.TableLemmas.{entries_counted}
+use Rattle.object_words.proofs.MentionLemmas.{mentioned_few}
 
 -- ---- how many strings there are
-
-no_longer : (xs seen : List (List ℕ)) → length (fold mention seen xs) ≤ length seen + length xs
-no_longer [] seen = omega arith
-no_longer (x ∷ xs) seen =
-    let later = no_longer xs (mention seen x) in
-    elim (cases_Bool (list_any (bytes_eq x) seen)) [
-      | inl is ↦ omega (arith, later, ap length (mention_old seen x is))
-      | inr isnt ↦ omega (arith, later, ap length (mention_new seen x isnt), length-append seen (x ∷ []))
-    ]
 
 named_few : (ws : List Worded) → list_all has_few_words ws ≡ true → length (flat_map entry_strings ws) ≤ 33 * length ws
 unfolding entry_strings
@@ -74,7 +64,7 @@ pub few_strings : (ws : List Worded) (lines : List Line) (behind : List (List �
     → length (strings_of (texts_named ws lines) behind) ≤ 33 * length ws + (length (flat_map line_strings lines) + length behind)
 unfolding strings_of texts_named
 few_strings ws lines behind h =
-    let all = no_longer (texts_named ws lines ++ behind) [] in
+    let all = mentioned_few (texts_named ws lines ++ behind) [] in
     omega (arith, all, named_few ws h, length-append (texts_named ws lines) behind, length-append (flat_map entry_strings ws) (flat_map line_strings lines))
 
 -- ---- each string is short
@@ -174,15 +164,12 @@ places_fit parents kinds o (p ∷ places) le h =
     let t = and_parts (is_well_placed all o p) (are_well_placed all (o + 1) places) h in
     and_from (ltb (place_holder p) 65536) (list_all (λ q. ltb (place_holder q) 65536) places) (place_fits parents kinds o p le t.0) (places_fit parents kinds (o + 1) places le t.1)
 
-kind_fits : (n : ℕ) → n ≤ 100 → (kind : ℕ) → is_below n kind ≡ true → ltb kind 256 ≡ true
-kind_fits n le kind h = let lt : kind < n = ltb-true _ _ h in lt-ltb _ _ (omega (arith, lt, le))
-
 objects_fit : (d : Declared) (objects : List Object) → IsWellMade (record { declared = d; objects = objects }) → list_all fits_object objects ≡ true
 objects_fit d objects made =
     let kinds = kinds_of objects in
     let declared = few_kinds d.kinds (declared_parts d made.declared).kinds in
     let few : length kinds ≤ 1000 = omega (arith, few_begin d.kinds (sorts_of d.kinds kinds).rooms objects made.begins, length_mapped (λ (o : Object). o.kind) objects) in
-    let small = all_mapped (λ kind. ltb kind 256) (λ (o : Object). o.kind) objects (all_weaker (is_below (length d.kinds)) (λ kind. ltb kind 256) (kind_fits (length d.kinds) declared) kinds made.kinds) in
+    let small = all_mapped (λ kind. ltb kind 256) (λ (o : Object). o.kind) objects (all_weaker (is_below (length d.kinds)) (λ kind. ltb kind 256) (byte_if (length d.kinds) declared) kinds made.kinds) in
     let held = all_mapped (λ p. ltb (place_holder p) 65536) (λ (o : Object). o.place) objects (places_fit d.kinds kinds 0 (places_of objects) few made.placed) in
     all_both (λ (o : Object). ltb o.kind 256) (λ (o : Object). ltb (place_holder o.place) 65536) objects small held
 

@@ -9,7 +9,7 @@ use Rattle.std.proofs.lemmas.List.Folds.{list_all-append}
 use Rattle.std.proofs.lemmas.Option.{get_or_from_slice_get, slice_get-map}
 use Rattle.world_meaning.specs.declared.needs.Needs.{Needs}
 use Rattle.command_grammar.specs.Lines.{no_line}
-use Rattle.object_words.specs.Mentions.{number_in, number_or_none}
+use Rattle.object_words.specs.Mentions.{number_in}
 use Rattle.object_words.proofs.StringLemmas.{length_mapped}
 use Rattle.play_meaning.specs.Grammar.{Direction, Line, Something, Token, Word, is_slot}
 use Rattle.play_meaning.specs.StandardActions.{standard_needs}
@@ -23,7 +23,7 @@ use Rattle.story_format.specs.RuleChecks.{are_right_lines, has_nouns, is_right_l
 use Rattle.story_format.specs.RuleMaking.{action_entries, action_entry, noun_count}
 use Rattle.story_format.specs.declared.rule_tables.LineEntry.{LineEntry}
 use Rattle.story_format.proofs.EntryLemmas.{counted_more, counted_same}
-use Rattle.story_format.proofs.Known.{found_by_number, is_known, named_known, passes_at}
+use Rattle.story_format.proofs.Known.{found_by_number, is_known, named_known, named_small, passes_at}
 use Rattle.story_format.proofs.OrderLemmas.{number_is_place}
 
 -- ---- the strings of lines are known
@@ -188,21 +188,13 @@ lines_right z strings actions lines count few few_lines known is =
 
 -- ---- there is room for each in its bytes
 
-number_small : (o : Option ℕ) → number_or_none o < 65536
-number_small None = omega arith
-number_small (Some place) = omega arith
-
-named_fits : (strings : List (List ℕ)) (text : List ℕ) → ltb (number_in strings text) 65536 ≡ true
-unfolding number_in
-named_fits strings text = lt-ltb _ _ (number_small _)
-
 get_below : {A : Type 0} (xs : List A) (n : ℕ) (x : A) → slice_get xs n ≡ Some x → n < length xs
 get_below [] n x at = absurd cc
 get_below (y ∷ xs) zero x at = omega arith
 get_below (y ∷ xs) (suc n) x at = omega (arith, get_below xs n x at)
 
 number_fits : (strings : List (List ℕ)) (token : Token) → ltb (token_number strings token) 65536 ≡ true
-number_fits strings (Word text) = named_fits strings text
+number_fits strings (Word text) = named_small strings text
 number_fits strings Something = refl
 number_fits strings Direction = refl
 
@@ -234,10 +226,6 @@ lines_fit strings needs (line ∷ lines) few is =
     and_from (line_layout.format.fits (line_entry strings line)) (list_all line_layout.format.fits (map (line_entry strings) lines)) (line_fits strings needs line few t.0) (lines_fit strings needs lines few t.1)
 
 -- ---- the lines that every story understands
-
-pub sixteen : length standard_needs ≡ 16
-unfolding standard_needs
-sixteen = refl
 
 pub standard_count : length standard_lines ≡ 33
 unfolding standard_lines

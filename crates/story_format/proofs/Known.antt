@@ -122,7 +122,7 @@ module _ (named : List (List ℕ)) (d : Declared) (origins : List Origin) where
 
 -- ---- numbers of strings have room in their bytes
 
-number_small : (o : Option ℕ) → number_or_none o < 65536
+pub number_small : (o : Option ℕ) → number_or_none o < 65536
 number_small None = omega arith
 number_small (Some place) = omega arith
 

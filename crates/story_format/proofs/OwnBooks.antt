@@ -32,6 +32,7 @@ use Rattle.story_format.specs.Sizes.{are_different}
 use Rattle.story_format.specs.declared.rule_entry.RuleEntry.{RuleEntry}
 use Rattle.story_format.specs.declared.rule_tables.Book.{Book}
 use Rattle.story_format.proofs.AboutRules.{named_parts}
+use Rattle.story_format.proofs.DeclaredLemmas.{step_few}
 use Rattle.story_format.proofs.ListedRules.{all_listed, count_listed, zip_listed}
 use Rattle.story_format.proofs.StandardRuleRows.{all_bare, bare_is, is_bare, standard_count, zip_append}
 
@@ -75,17 +76,13 @@ once_different (n ∷ ns) once =
 
 -- ---- a book's numbers
 
-at_most_one : (b : Bool) → cond b 1 0 ≤ 1
-at_most_one true = omega arith
-at_most_one false = omega arith
-
 is_then : (b : Bool) → 1 ≤ cond b 1 0 → b ≡ true
 is_then true h = refl
 is_then false h = absurd (omega (arith, h))
 
 module _ (s : Setting) (rules : List Rule) (book : ℕ) where
   numbers_once : are_different (book_of s rules book) ≡ true
-  numbers_once = once_different (book_of s rules book) (λ k. omega (arith, book_times s rules book k, at_most_one (is_of_book book (slice_get rules k))))
+  numbers_once = once_different (book_of s rules book) (λ k. omega (arith, book_times s rules book k, step_few (is_of_book book (slice_get rules k))))
 
   stands_so : (k : ℕ) → 1 ≤ times k (book_of s rules book) → is_of_book book (slice_get rules k) ≡ true
   stands_so k there = is_then (is_of_book book (slice_get rules k)) (omega (arith, there, book_times s rules book k))

@@ -1,5 +1,5 @@
 -- A story file says descriptions that say bytes alone, where there is no rule and nothing begins or ends a scene.
-use Rattle.std.proofs.Common.{◌≡◌, ◌∙◌, ap, sym, refl, subst, Bool, ◌++◌, ℕ, suc, ◌+◌, ◌*◌, ◌<◌, ◌≤◌, leb, true, List, [], ◌∷◌, length, Option, Some, None, arith}
+use Rattle.std.proofs.Common.{◌≡◌, ◌∙◌, ap, sym, refl, subst, Bool, ◌++◌, ℕ, suc, ◌+◌, ◌*◌, ◌<◌, ◌≤◌, leb, true, List, [], ◌∷◌, length, arith}
 use Rattle.std.specs.Prelude.{map}
 use Rattle.std.specs.List.{AllByRecursion, flat_map, list_all}
 use Rattle.std.proofs.lemmas.Bool.{leb-true, lt-ltb, and_from, and_parts}
@@ -8,7 +8,7 @@ use Rattle.std.proofs.lemmas.List.{length-append, length-map}
 use Rattle.world_meaning.specs.Declarations.{is_right_value_kind}
 use Rattle.world_meaning.specs.declared.declared.ValueKind.{ValueKind}
 use Rattle.world_meaning.specs.declared.tale.Tale.{Tale}
-use Rattle.object_words.specs.Mentions.{number_in, number_or_none}
+use Rattle.object_words.specs.Mentions.{number_in}
 use Rattle.play_meaning.specs.StandardGrammar.{standard_lines}
 use Rattle.play_meaning.specs.StandardRules.{plain}
 use Rattle.play_meaning.specs.TranslatedScripts.{emitted_in_turn}
@@ -26,7 +26,7 @@ use Rattle.story_format.proofs.MadeValues.{value_parts}
 use Rattle.story_format.proofs.EntryLemmas.{objects_back, objects_in}
 use Rattle.story_format.proofs.Fits.{all_good_words, few_strings, strings_short}
 use Rattle.story_format.proofs.GrammarLemmas.{standard_short, standard_words, within}
-use Rattle.story_format.proofs.Known.{is_known, said_known}
+use Rattle.story_format.proofs.Known.{is_known, number_small, said_known}
 use Rattle.story_format.proofs.OrderLemmas.{codes_few}
 use Rattle.story_format.proofs.Stories.{few_objects}
 
@@ -81,10 +81,6 @@ idle_recur [] = refl
 idle_recur (recurs ∷ scenes) = ap (λ more. recurs ∷ more) (idle_recur scenes)
 
 -- ---- numbers
-
-number_small : (o : Option ℕ) → number_or_none o < 65536
-number_small None = omega arith
-number_small (Some place) = omega arith
 
 named_small : (strings : List (List ℕ)) (x : List ℕ) → number_in strings x < 65536
 unfolding number_in

@@ -2,11 +2,11 @@
 use Rattle.std.specs.Prelude.{ℕ, ◌+◌, max, Bool, true, false, not, ◌&&◌, ◌==◌, nat_le, nat_lt, List, [], ◌∷◌, ◌++◌, length, take, slice_get, slice_index_or, Option, Some, None, codes, count_by, filter, map}
 use Rattle.std.specs.List.{list_all, flat_map}
 use Rattle.std.specs.Str.{bytes_eq}
-use Rattle.std.specs.Char.{to_ascii_lowercase}
 use Rattle.world_meaning.specs.declared.direction.Direction.{Direction}
 use Rattle.world_meaning.specs.Directions.{all_directions, direction_name}
 use Rattle.world_meaning.specs.Kinds.{direction_kind, is_under, person_kind}
 use Rattle.world_meaning.specs.Sorts.{is_at, kinds_told}
+pub use Rattle.world_meaning.specs.Spelling.{is_small, is_small_byte}
 use Rattle.world_meaning.specs.Standing.{are_well_placed, have_ends, lead_rightly}
 use Rattle.object_words.specs.Mentions.{first_mentions}
 use Rattle.object_words.specs.Words.{words_for}
@@ -48,13 +48,6 @@ has_words strings o e = words_begin strings o e (slice_get strings e.name)
 unfoldable pub have_words : List (List ℕ) → ℕ → List Entry → Bool
 have_words strings o [] = true
 have_words strings o (e ∷ es) = has_words strings o e && have_words strings (o + 1) es
-
--- no capital letter
-abbrev pub is_small_byte : ℕ → Bool
-is_small_byte byte = to_ascii_lowercase byte == byte
-
-abbrev pub is_small : List ℕ → Bool
-is_small text = list_all is_small_byte text
 
 -- each string that the words name is small, where it is told of each string whether it is
 abbrev pub is_small_at : List Bool → ℕ → Bool

@@ -10,14 +10,9 @@ use play_meaning::ActNo;
 use play_meaning::standard_actions::TAKING;
 use std::alloc::{AllocError, Global};
 use story_code::is_held;
+use world_meaning::standard_properties::{FIXED_IN_PLACE, SCENERY};
 use world_meaning::{KindNo, ObjNo, Place, Rel};
 use world_store::World;
-
-/// The property that a thing is no part of what is seen at first.
-const SCENERY: u8 = 5;
-
-/// The property that a thing stays where it is; without it the thing is portable.
-const FIXED_IN_PLACE: u8 = 6;
 
 /// The number of the player.
 const PLAYER: u16 = 0;

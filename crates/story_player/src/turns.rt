@@ -11,16 +11,11 @@ ghost use Rattle.story_player.specs.Begun.{begin_play};
 
 use action_stages::{LEVELS, Stage, count_turn, follow, perform};
 use play_meaning::standard_actions::LOOKING;
+use play_meaning::standard_books::{EVERY_TURN, PLAY_BEGINS};
 use play_meaning::{ActNo, ActionNow};
 use scenes::pass;
 use std::alloc::Global;
 use world_meaning::Abandon;
-
-/// The rulebook of every turn.
-const EVERY_TURN: u16 = 6;
-
-/// The rulebook of when play begins.
-const PLAY_BEGINS: u16 = 7;
 
 /// The action of looking round.
 fn look_round() -> ActionNow

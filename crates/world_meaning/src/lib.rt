@@ -22,6 +22,7 @@ mod session;
 mod sight_laws;
 mod sorts;
 mod spelling;
+pub mod standard_properties;
 mod tale;
 mod text;
 

@@ -15,13 +15,8 @@ use object_tree::Children;
 use std::alloc::{AllocError, Global};
 use story_code::is_held;
 use story_format::{door_in, way_in};
+use world_meaning::standard_properties::{DESCRIBED, SCENERY};
 use world_meaning::{KindNo, ObjNo, Rel};
-
-/// The property that a thing is no part of what is seen at first.
-const SCENERY: u8 = 5;
-
-/// The property that a thing is told of where what is seen is listed.
-const DESCRIBED: u8 = 8;
 
 impl World {
     /// Whether an object's kind has an either-or property, by its number, that is true of the object.
