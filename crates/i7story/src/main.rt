@@ -25,11 +25,11 @@ fn words_of<'a>(rt: &HostRuntime) -> Result<Vec<String>, ProgramFault<'a>> {
 fn status(rt: &HostRuntime) -> u8 {
     let words = match words_of(rt) {
         Ok(words) => words,
-        Err(fault) => return report(&fault, &mut rt.stderr()),
+        Err(fault) => return report(&fault, &mut rt.stderr()).status,
     };
     match told(rt, words.as_slice()).and_then(|order| obey(rt, order)) {
         Ok(()) => 0,
-        Err(fault) => report(&fault, &mut rt.stderr()),
+        Err(fault) => report(&fault, &mut rt.stderr()).status,
     }
 }
 

@@ -1,5 +1,5 @@
 //! The program's lines and statuses for what goes wrong.
-use source_player::{ProgramFault, report, tell};
+use source_player::{ProgramFault, report};
 use standard_rules::HostFault;
 use std::str;
 use std::test::Fail;
@@ -61,11 +61,10 @@ fn faults_have_a_line_and_a_status(rt: HostRuntime) -> Result<(), Fail> {
     ];
     for (fault, status, line) in &reports {
         let mut written = Vec::new(alloc);
-        assert_eq!(rt; report(fault, &mut written), *status, "{line}");
+        let report = report(fault, &mut written);
+        assert_eq!(rt; report.status, *status, "{line}");
+        assert!(rt; report.told.is_ok(), "{line}");
         assert_eq!(rt; str::from_utf8(written.as_slice())?, *line);
-        let mut told = Vec::new(alloc);
-        assert!(rt; tell(fault, &mut told).is_ok(), "{line}");
-        assert_eq!(rt; told.as_slice(), written.as_slice());
     }
     Ok(())
 }
@@ -106,13 +105,16 @@ fn each_code_is_told_by_its_number_and_its_name(rt: HostRuntime) -> Result<(), F
     for (code, name) in CODES {
         let mut written = Vec::new(alloc);
         let fault = ProgramFault::Source("x.i7", refusal(*code, 7));
-        assert_eq!(rt; report(&fault, &mut written), 1);
+        assert_eq!(rt; report(&fault, &mut written).status, 1);
         let line = format!(in alloc; "x.i7:7: {name}\n")?;
         assert_eq!(rt; written.as_slice(), line.as_bytes());
     }
     for (fault, name) in STORY_FAULTS {
         let mut written = Vec::new(alloc);
-        assert_eq!(rt; report(&ProgramFault::Story("x", *fault), &mut written), 2);
+        assert_eq!(rt;
+            report(&ProgramFault::Story("x", *fault), &mut written).status,
+            2
+        );
         let line = format!(in alloc; "x: {name}\n")?;
         assert_eq!(rt; written.as_slice(), line.as_bytes());
     }

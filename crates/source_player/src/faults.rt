@@ -81,7 +81,7 @@ impl fmt::Display for ProgramFault<'_> {
 
 /// Writes the fault's line, where the writer takes it: nothing where the transcript can't be written,
 /// which the status alone tells.
-pub fn tell<W: Write>(fault: &ProgramFault<'_>, writer: &mut W) -> io::Result<()>
+fn tell<W: Write>(fault: &ProgramFault<'_>, writer: &mut W) -> io::Result<()>
     ensures { OnOk result (Appends (W.contents writer.old) (W.contents writer.new) (line_of fault.now)) }
 {
     if fault.is_memory() {
@@ -94,16 +94,26 @@ pub fn tell<W: Write>(fault: &ProgramFault<'_>, writer: &mut W) -> io::Result<()
     }
 }
 
-/// Writes the fault's line, and answers the status with which the program ends: 1 a source that is
-/// refused, 2 a story that is refused, 3 a file or a stream, 4 memory, 5 the program's words. A writer that
-/// fails changes no status.
-pub fn report<W: Write>(fault: &ProgramFault<'_>, writer: &mut W) -> u8
-    ensures { result ≡ status_of fault.now }
+/// What came of telling a fault.
+#[derive(Debug, Drop)]
+pub struct Reported {
+    /// The status with which the program ends: 1 a source that is refused, 2 a story that is refused, 3 a
+    /// file or a stream, 4 memory, 5 the program's words.
+    pub status: u8,
+    /// Whether the fault's line was written; a writer that fails changes no status.
+    pub told: io::Result<()>,
+}
+
+/// Writes the fault's line, and answers the status with which the program ends.
+pub fn report<W: Write>(fault: &ProgramFault<'_>, writer: &mut W) -> Reported
+    ensures status { result.status ≡ status_of fault.now }
+    ensures told { OnOk result.told (Appends (W.contents writer.old) (W.contents writer.new) (line_of fault.now)) }
 {
-    let _ = tell(fault, writer);
-    if fault.is_memory() {
+    let told = tell(fault, writer);
+    let status = if fault.is_memory() {
         4
     } else {
         fault.plain_status()
-    }
+    };
+    Reported { status, told }
 }

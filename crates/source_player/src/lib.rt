@@ -6,6 +6,6 @@ mod faults;
 mod laws;
 mod source_run;
 
-pub use faults::{ProgramFault, report, tell};
+pub use faults::{ProgramFault, Reported, report};
 pub use laws::compiled_stories_are_played_as_meant;
 pub use source_run::{Play, SourceRunFault, play_bytes, run_source, run_story};

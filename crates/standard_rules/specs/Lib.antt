@@ -1,3 +1,4 @@
 pub mod Answers
 pub mod HostTables
 pub mod Hosts
+pub mod PropertyNames

@@ -14,6 +14,7 @@ mod listing;
 mod looking;
 mod numbers;
 mod opening;
+mod property_laws;
 mod putting;
 mod switching;
 mod taking;
@@ -29,6 +30,7 @@ pub use hosts::{HostCall, HostRule, HostTable};
 pub use inventory::{rule_50, rule_51, rule_52, rule_53};
 pub use looking::{rule_1, rule_2, rule_3, rule_4};
 pub use opening::{rule_31, rule_32, rule_33, rule_34, rule_35, rule_36, rule_37, rule_38};
+pub use property_laws::properties_stand_at_their_numbers;
 pub use putting::{
     rule_20, rule_21, rule_22, rule_23, rule_24, rule_25, rule_26, rule_27, rule_28, rule_29,
     rule_30,
