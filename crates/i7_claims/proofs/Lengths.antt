@@ -146,7 +146,7 @@ no_longer_name most known is_joined column front (b ∷ bytes) h long =
     let more : longest_phrase most < length (front ++ b ∷ []) = omega (arith, long, length-append front (b ∷ [])) in
     let none = no_long_phrase most known is_joined (front ++ b ∷ []) h more in
     let rest = no_longer_name most known is_joined column (front ++ b ∷ []) bytes h more in
-    elim (cases_Bool (may_end column bytes)) [
+    elim (cases_Bool (may_end column (front ++ b ∷ []) bytes)) [
       | inl is ↦ rw (is, none, rest) refl
       | inr isnt ↦ rw (isnt, rest) refl
     ]

@@ -76,7 +76,7 @@ with_ranged cut (Some quality) h k = one_more cut.qualities quality h k
 ended_ranged : (known : Standings) (is_joined : Bool) (column : List Bool) (cut : Cut) (after : List ℕ) → AreRangedQualities cut.qualities
     → AreRangedQualities (ended known is_joined column cut after).qualities
 ended_ranged known is_joined column cut after h =
-    elim (cases_Bool (may_end column after)) [
+    elim (cases_Bool (may_end column cut.front after)) [
       | inl is ↦ rw is (with_ranged cut (phrase_said known is_joined cut.front) h (phrase_ranged known is_joined cut.front))
       | inr isnt ↦ rw isnt h
     ]

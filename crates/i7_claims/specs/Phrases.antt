@@ -1,6 +1,6 @@
 -- Phrases of one name: what is said by a property's name, perhaps behind `not` or an article, or by a kind's.
-use Rattle.std.specs.Prelude.{ℕ, ◌+◌, Bool, true, false, not, ◌&&◌, ◌==◌, List, [], ◌∷◌, take, drop, Option, Some, None, option_map, codes, if◌then◌else◌}
-use Rattle.std.specs.List.{prefix_len}
+use Rattle.std.specs.Prelude.{ℕ, ◌+◌, ◌-◌, Bool, true, false, not, ◌&&◌, ◌==◌, List, [], ◌∷◌, take, drop, length, Option, Some, None, option_map, codes, if◌then◌else◌}
+use Rattle.std.specs.List.{prefix_len, suffix_len}
 use Rattle.world_meaning.specs.Spelling.{is_article, is_spelled}
 use Rattle.i7_claims.specs.NameScans.{Standings}
 use Rattle.i7_claims.specs.Plurals.{kind_named}
@@ -44,6 +44,9 @@ first_word words = take (prefix_len is_letter words) words
 abbrev pub without_blank : List ℕ → List ℕ
 without_blank [] = []
 without_blank (b ∷ bytes) = bytes
+
+abbrev pub last_word : List ℕ → List ℕ
+last_word words = drop (length words - suffix_len is_letter words) words
 
 -- what stands behind the first word and its blank
 abbrev pub behind_word : List ℕ → List ℕ

@@ -1,8 +1,8 @@
 -- What words say that something is, by what each name stands for: either-or properties, and then perhaps a kind.
 use Rattle.std.specs.Prelude.{ℕ, Bool, true, false, not, ◌&&◌, ◌||◌, List, [], ◌∷◌, ◌++◌, length, get_or, Option, Some, None, is_some, codes, if◌then◌else◌}
-use Rattle.world_meaning.specs.Spelling.{lowered}
+use Rattle.world_meaning.specs.Spelling.{is_spelled, lowered}
 use Rattle.i7_claims.specs.NameScans.{Standings}
-use Rattle.i7_claims.specs.Phrases.{is_blank, is_phrase, kind_said, phrase_said}
+use Rattle.i7_claims.specs.Phrases.{first_word, is_blank, is_phrase, kind_said, last_word, phrase_said, without_blank}
 use Rattle.i7_claims.specs.declared.claim.Quality.{Quality}
 use Rattle.i7_claims.specs.declared.wording.What.{What}
 
@@ -20,13 +20,17 @@ is_end (b ∷ bytes) = is_blank b
 abbrev pub looked : List Bool → ℕ → Bool
 looked column left = get_or column left false
 
--- before these bytes a name may end: a word does, and they can be cut
-abbrev pub may_end : List Bool → List ℕ → Bool
-may_end column after = is_end after && looked column (length after)
+-- `switched off` is one word; so are `switched on` and `fixed in place`, but `on` and `in` are reserved, and begin no name by themselves
+abbrev pub parts_word : List ℕ → List ℕ → Bool
+parts_word front after = is_spelled (first_word (without_blank after)) (codes "off") && is_spelled (last_word front) (codes "switched")
+
+-- between these bytes a name may end: a word does, and those behind can be cut
+abbrev pub may_end : List Bool → List ℕ → List ℕ → Bool
+may_end column front after = is_end after && looked column (length after) && not (parts_word front after)
 
 -- the bytes in front are a name, and those behind it can be cut
 abbrev pub ends_name : Standings → Bool → List Bool → List ℕ → List ℕ → Bool
-ends_name known is_joined column front after = may_end column after && is_phrase known is_joined front
+ends_name known is_joined column front after = may_end column front after && is_phrase known is_joined front
 
 -- the bytes in front, with some of these, are one
 abbrev pub some_name : Standings → Bool → List Bool → List ℕ → List ℕ → Bool
@@ -64,7 +68,7 @@ with_byte cut b = record cut { front = cut.front ++ b ∷ [] }
 -- a name ends where those behind it can be cut
 abbrev pub ended : Standings → Bool → List Bool → Cut → List ℕ → Cut
 ended known is_joined column cut after =
-    if may_end column after then with_quality cut (phrase_said known is_joined cut.front) else cut
+    if may_end column cut.front after then with_quality cut (phrase_said known is_joined cut.front) else cut
 
 -- one byte more, with those behind it
 abbrev pub taken : Standings → Bool → List Bool → Cut → ℕ → List ℕ → Cut

@@ -1,20 +1,24 @@
-//! The sentences of a source with what they claim and the names of their objects, each worked out once.
+//! The sentences of a source with what they claim, the names of their objects and those of the language, each worked out once.
 ghost use Rattle.std.specs.Prelude.{◌≡◌, IfOk};
 ghost use Rattle.i7_claims.specs.Claims.{claims_of};
+ghost use Rattle.i7_claims.specs.Standings.{built_in_namings};
 ghost use Rattle.i7_claims.specs.Statements.{named_by};
 ghost use Rattle.i7_claims.specs.Views.{names_of};
 
-use crate::claim::Claim;
+use crate::built_in::built_in_namings;
+use crate::claim::{Claim, Naming};
 use crate::claiming::claims_of;
 use crate::names::{Names, names_of};
 use i7_sentences::Sentence;
 use std::alloc::{AllocError, Global};
 use std::marker::Model;
 
-/// The sentences of a source, what they claim, and the names of their objects. Contracts see the sentences.
+/// The sentences of a source, what names stand for before any of them, what they claim, and the names of their objects.
+/// Contracts see the sentences.
 #[derive(Drop)]
 pub struct Claimed<'a> {
     sentences: &'a [Sentence],
+    built_in: Vec<Naming>,
     claims: Vec<Claim>,
     names: Names<'a>,
 }
@@ -26,12 +30,13 @@ impl<'a> Model for Claimed<'a> {
     ghost Value = { List Sentence };
 
     ghost use Rattle.i7_claims.specs.Claims.{claims_of};
+    ghost use Rattle.i7_claims.specs.Standings.{built_in_namings};
     ghost use Rattle.i7_claims.specs.Statements.{named_by};
     ghost use Rattle.i7_claims.specs.Views.{names_of};
 
     ghost view = { λ c. c.sentences.now };
 
-    ghost invariant = { λ c. (c.claims.items ≡ claims_of c.sentences.now) × (names_of c.names ≡ named_by c.sentences.now) };
+    ghost invariant = { λ c. (c.built_in.items ≡ built_in_namings) × (c.claims.items ≡ claims_of c.sentences.now) × (names_of c.names ≡ named_by c.sentences.now) };
 }
 
 impl<'a> Claimed<'a> {
@@ -39,10 +44,12 @@ impl<'a> Claimed<'a> {
     pub fn new(alloc: Global, sentences: &'a [Sentence]) -> Result<Claimed<'a>, AllocError>
         ensures { IfOk result (λ claimed. claimed ≡ sentences.now) }
     {
-        let claims = claims_of(alloc, sentences)?;
+        let built_in = built_in_namings(alloc)?;
+        let claims = claims_of(alloc, built_in.as_slice(), sentences)?;
         let names = names_of(alloc, sentences)?;
         Ok(Claimed {
             sentences,
+            built_in,
             claims,
             names,
         })
@@ -53,6 +60,13 @@ impl<'a> Claimed<'a> {
         ensures { result.now ≡ self.now }
     {
         self.sentences
+    }
+
+    /// What names stand for before any sentence.
+    pub fn built_in(&self) -> &[Naming]
+        ensures { result.now ≡ built_in_namings }
+    {
+        self.built_in.as_slice()
     }
 
     /// What they claim, in order.

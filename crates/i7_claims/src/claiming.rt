@@ -4,11 +4,11 @@ ghost use Rattle.world_meaning.specs.Spelling.{lowered as small};
 ghost use Rattle.i7_claims.specs.Beings.{holders_in};
 ghost use Rattle.i7_claims.specs.Claims.{being_claims, claimed, claims_in, claims_of, claims_said, declares_said, either_or, grant_of, holding_claims, lies, named};
 ghost use Rattle.i7_claims.specs.NameScans.{IsShort, standing_at};
+ghost use Rattle.i7_claims.specs.Standings.{built_in_namings};
 ghost use Rattle.i7_claims.specs.Statements.{key_of};
 ghost use Rattle.i7_claims.specs.declared.claim.Fact.TheVariants.{CanBe, HasNumber, Rulebook};
 ghost use Rattle.i7_claims.specs.declared.claim.Standing.TheVariants as stands;
 
-use crate::built_in::built_in_namings;
 use crate::choosing::{add_has_value, add_values};
 use crate::claim::{Claim, Fact, Grant, Lying, Naming, Standing};
 use crate::declaring::declares_of;
@@ -333,15 +333,19 @@ fn claims_with(
     Ok(claims)
 }
 
-/// What the sentences claim.
+/// What the sentences claim, where names stand for this before any of them.
 #[tactic(auto, unfolding(crate::specs::NameScans::built_in_standings))]
-pub fn claims_of(alloc: Global, sentences: &[Sentence]) -> Result<Vec<Claim>, AllocError>
+pub fn claims_of(
+    alloc: Global,
+    built_in: &[Naming],
+    sentences: &[Sentence],
+) -> Result<Vec<Claim>, AllocError>
+    requires { built_in.now ≡ built_in_namings }
     ensures { IfOk result (λ claims. claims.items ≡ claims_of sentences.now) }
 {
-    let namings = built_in_namings(alloc)?;
     let declares = declares_of(alloc, sentences)?;
-    let known = known_after(alloc, namings.as_slice(), declares.as_slice())?;
-    let most = longest_name(namings.as_slice(), declares.as_slice());
+    let known = known_after(alloc, built_in, declares.as_slice())?;
+    let most = longest_name(built_in, declares.as_slice());
     let claims = claims_with(alloc, &known, most, sentences)?;
     Ok(claims)
 }

@@ -25,7 +25,6 @@ mod statements;
 mod usuals;
 mod wording;
 
-pub use built_in::built_in_namings;
 pub use claim::{
     Claim, Demand, Fact, Grant, Having, Listing, Lying, NamedValue, Naming, Placing, Standing,
     Start, Usual, Value,

@@ -1,8 +1,8 @@
 //! Phrases of one name: what is said by a property's name, perhaps behind `not` or an article, or by a kind's.
 ghost use Rattle.std.specs.Prelude.{◌≡◌, ◌≤◌, if◌then◌else◌, IfOk, None, Some, length, nat_lt, option_copied};
-ghost use Rattle.std.specs.List.{prefix_len};
+ghost use Rattle.std.specs.List.{prefix_len, suffix_len};
 ghost use Rattle.i7_claims.specs.NameScans.{IsShort, standing_at};
-ghost use Rattle.i7_claims.specs.Phrases.{behind_word, denied_if, first_word, is_behind_and, is_denied, is_letter, is_name, is_phrase, denied, is_quality, kind_said, longest_phrase, name_in, phrase_said, plain_said, quality_in, said_of, without_article, without_blank};
+ghost use Rattle.i7_claims.specs.Phrases.{behind_word, denied_if, first_word, is_behind_and, is_denied, is_letter, is_name, is_phrase, denied, is_quality, kind_said, last_word, longest_phrase, name_in, phrase_said, plain_said, quality_in, said_of, without_article, without_blank};
 ghost use Rattle.i7_claims.specs.declared.claim.Value.TheVariants.{Choice};
 
 use crate::claim::{NamedValue, Quality, Standing, Value};
@@ -19,14 +19,29 @@ fn first_len(words: &[u8]) -> usize
     words.iter().take_while(|byte| **byte != b' ').count()
 }
 
-fn first_word(words: &[u8]) -> &[u8]
+pub fn first_word(words: &[u8]) -> &[u8]
     ensures { result.now ≡ first_word words.now }
 {
     let (word, _) = words.split_at(first_len(words));
     word
 }
 
-fn without_blank(words: &[u8]) -> &[u8]
+/// How many bytes the last word has.
+fn last_len(words: &[u8]) -> usize
+    ensures value { result ≡ suffix_len is_letter words.now }
+    ensures bound { result ≤ length words.now }
+{
+    words.iter().rev().take_while(|byte| **byte != b' ').count()
+}
+
+pub fn last_word(words: &[u8]) -> &[u8]
+    ensures { result.now ≡ last_word words.now }
+{
+    let (_, word) = words.split_at(words.len() - last_len(words));
+    word
+}
+
+pub fn without_blank(words: &[u8]) -> &[u8]
     ensures { result.now ≡ without_blank words.now }
 {
     match words {

@@ -2,9 +2,9 @@
 ghost use Rattle.std.specs.Prelude.{◌≡◌, IfOk, OnOk, None, fold, option_copied};
 ghost use Rattle.i7_claims.specs.NameScans.{IsShort, book_twice, clashes, is_book_twice, is_listed_twice, is_twice, longer, longer_claim, longer_fact, name_twice, no_standings, shows_twice, standing_at, list_twice, with_book, with_claim, with_fact, with_list, with_naming};
 ghost use Rattle.i7_claims.specs.Scans.{lowest};
-ghost use Rattle.i7_claims.specs.Standings.{is_second_of, suits, suits_first, suits_second};
+ghost use Rattle.i7_claims.specs.Standings.{built_in_namings, is_second_of, suits, suits_first, suits_second};
 
-use crate::built_in::{built_in_books, built_in_namings};
+use crate::built_in::built_in_books;
 use crate::claim::{Claim, Fact, Naming, Standing};
 use crate::scans::lower;
 use indexmap::IndexMap;
@@ -204,14 +204,18 @@ fn twice_after<'a>(known: &mut Known<'a>, claims: &'a [Claim]) -> Result<Option<
     Ok(found)
 }
 
-/// The lowest line of a name that stands for something else.
+/// The lowest line of a name that stands for something else, where names stand for this before any sentence.
 #[tactic(auto, unfolding(crate::specs::NameScans::built_in_standings))]
-pub fn name_twice(alloc: Global, claims: &[Claim]) -> Result<Option<u32>, AllocError>
+pub fn name_twice(
+    alloc: Global,
+    built_in: &[Naming],
+    claims: &[Claim],
+) -> Result<Option<u32>, AllocError>
+    requires { built_in.now ≡ built_in_namings }
     ensures { IfOk result (λ found. found ≡ name_twice claims.now) }
 {
-    let namings = built_in_namings(alloc)?;
     let mut known = IndexMap::new(alloc);
-    keep_all(&mut known, namings.as_slice())?;
+    keep_all(&mut known, built_in)?;
     let found = twice_after(&mut known, claims)?;
     Ok(found)
 }

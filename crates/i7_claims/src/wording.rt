@@ -1,14 +1,16 @@
 //! What words say that something is: either-or properties, and then perhaps a kind.
 ghost use Rattle.std.specs.Prelude.{◌≡◌, [], IfOk};
 ghost use Rattle.i7_claims.specs.NameScans.{IsShort, standing_at};
-ghost use Rattle.i7_claims.specs.Wording.{can_begin, can_cut, column_of, cut, cut_words, ends_name, is_end, looked, may_end, some_name, uncut, usual_said, what_said};
+ghost use Rattle.i7_claims.specs.Wording.{can_begin, can_cut, column_of, cut, cut_words, ends_name, is_end, looked, may_end, parts_word, some_name, uncut, usual_said, what_said};
 
 use crate::claim::Quality;
-use crate::phrases::{is_phrase, is_too_long, kind_said, phrase_said};
+use crate::phrases::{
+    first_word, is_phrase, is_too_long, kind_said, last_word, phrase_said, without_blank,
+};
 use crate::standings::Known;
 use std::alloc::{AllocError, Global};
 use std::marker::Model;
-use world_meaning::{Listed, TextBytes, lowered};
+use world_meaning::{Listed, TextBytes, is_spelled, lowered};
 
 /// What words say: either-or properties, in order, and a kind, if they name one.
 #[derive(Debug, Drop)]
@@ -42,11 +44,19 @@ fn looked(column: &[bool], left: usize) -> bool
     column.get(left).copied().unwrap_or(false)
 }
 
-/// Whether a name may end before these bytes: a word does, and they can be cut.
-fn may_end(column: &[bool], after: &[u8]) -> bool
-    ensures { result ≡ may_end column.now after.now }
+/// Whether these bytes part `switched off`, which is one word.
+fn parts_word(front: &[u8], after: &[u8]) -> bool
+    ensures { result ≡ parts_word front.now after.now }
 {
-    is_end(after) && looked(column, after.len())
+    is_spelled(first_word(without_blank(after)), b"off")
+        && is_spelled(last_word(front), b"switched")
+}
+
+/// Whether a name may end between these bytes: a word does, and those behind can be cut.
+fn may_end(column: &[bool], front: &[u8], after: &[u8]) -> bool
+    ensures { result ≡ may_end column.now front.now after.now }
+{
+    is_end(after) && looked(column, after.len()) && !parts_word(front, after)
 }
 
 /// Whether the bytes in front are a name, and those behind it can be cut.
@@ -59,7 +69,7 @@ fn ends_name(
 ) -> bool
     ensures { result ≡ ends_name (standing_at known.now) is_joined column.now front.now after.now }
 {
-    may_end(column, after) && is_phrase(known, is_joined, front)
+    may_end(column, front, after) && is_phrase(known, is_joined, front)
 }
 
 /// Whether a name stands at the words' front behind which the rest can be cut.
@@ -199,7 +209,7 @@ impl Cutting {
     ) -> Result<(), AllocError>
         ensures { OnOk result (self.new ≡ ended (standing_at known.now) is_joined column.now self.old after.now) }
     {
-        if !may_end(column, after) {
+        if !may_end(column, self.front.as_slice(), after) {
             return Ok(());
         }
         let quality = phrase_said(alloc, known, is_joined, self.front.as_slice())?;

@@ -76,7 +76,7 @@ fn twice(
 ) -> Result<Option<u32>, AllocError>
     ensures { IfOk result (λ line. line ≡ said_twice scope.now claims.now (descriptions_in descriptions.now)) }
 {
-    let name = name_twice(alloc, claims)?;
+    let name = name_twice(alloc, scope.built_in(), claims)?;
     let book = book_twice(alloc, claims)?;
     let list = list_twice(alloc, claims)?;
     let value = value_twice(alloc, Bearer::Objects, scope, claims)?;

@@ -1,15 +1,17 @@
 //! The names of a source's objects, kinds, properties and variables, by number, which kind lies under which, which
 //! kinds sentences give a property to, and of which objects they demand a door.
 ghost use Rattle.std.specs.Prelude.{◌≡◌};
+ghost use Rattle.i7_claims.specs.Standings.{built_in_namings};
 
 use crate::author_kinds::is_under;
 use crate::grants::Given;
-use i7_claims::number_in;
+use i7_claims::{Naming, number_in};
 use object_words::Strings;
 use std::marker::Model;
 
 /// The names of objects, of kinds and of properties, the either-or ones first, of each kind the kind above it, the
-/// kinds that properties are given to, the objects of which doors are demanded, and the names of variables.
+/// kinds that properties are given to, the objects of which doors are demanded, and the names of variables; and what
+/// names stand for before any sentence, which is the same for every source, so that contracts don't see it.
 #[derive(Drop)]
 pub struct Scope<'a> {
     objects: &'a Strings,
@@ -19,6 +21,7 @@ pub struct Scope<'a> {
     givens: &'a [Given],
     doors: &'a Strings,
     variables: &'a Strings,
+    built_in: &'a [Naming],
 }
 
 impl<'a> Model for Scope<'a> {
@@ -27,6 +30,11 @@ impl<'a> Model for Scope<'a> {
     ghost Value = { Names };
 
     ghost view = { λ s. scope_of_names s.objects.now s.kinds.now s.parents.now s.properties.now s.givens.now s.doors.now s.variables.now };
+
+    ghost use Rattle.std.specs.Prelude.{◌≡◌};
+    ghost use Rattle.i7_claims.specs.Standings.{built_in_namings};
+
+    ghost invariant = { λ s. s.built_in.now ≡ built_in_namings };
 }
 
 impl<'a> Scope<'a> {
@@ -44,7 +52,9 @@ impl<'a> Scope<'a> {
         givens: &'a [Given],
         doors: &'a Strings,
         variables: &'a Strings,
+        built_in: &'a [Naming],
     ) -> Scope<'a>
+        requires { built_in.now ≡ built_in_namings }
         ensures { result ≡ scope_of_names objects.now kinds.now parents.now properties.now givens.now doors.now variables.now }
     {
         Scope {
@@ -55,7 +65,15 @@ impl<'a> Scope<'a> {
             givens,
             doors,
             variables,
+            built_in,
         }
+    }
+
+    /// What names stand for before any sentence.
+    pub fn built_in(&self) -> &'a [Naming]
+        ensures { result.now ≡ built_in_namings }
+    {
+        self.built_in
     }
 
     /// The number of the variable of this name.

@@ -11,6 +11,7 @@ ghost use Rattle.i7_kinds.specs.StatedWays.{stated};
 ghost use Rattle.i7_kinds.specs.Suits.{first_room, with_player};
 ghost use Rattle.i7_kinds.specs.Tales.{entries_of, frame_refusal, judged, limit_refusal, made_of, no_room, objects_of, refusal_at, refusal_of, said_by, said_in, scope_of, tale_made, tale_said};
 ghost use Rattle.i7_kinds.specs.Ready.{IsReady};
+ghost use Rattle.i7_claims.specs.Standings.{built_in_namings};
 ghost use Rattle.i7_claims.specs.Statements.{named_by};
 ghost use Rattle.i7_claims.specs.Views.{mentions_of, names_of};
 
@@ -31,7 +32,7 @@ use crate::suits::{first_room, put_player};
 use crate::values::{Bearer, values_by};
 use crate::ways::Ways;
 use i7_claims::{
-    Claim, Claimed, Mention, Names, NumberedSentence, Sort, earlier, kind_names, names_as,
+    Claim, Claimed, Mention, Names, Naming, NumberedSentence, Sort, earlier, kind_names, names_as,
     property_names, statements_in,
 };
 use i7_sentences::Sentence;
@@ -240,10 +241,12 @@ fn said_in(
     alloc: Global,
     kinds: &Strings,
     parents: &[Option<usize>],
+    built_in: &[Naming],
     claims: &[Claim],
     names: &Names<'_>,
     sentences: &[Sentence],
 ) -> Result<Result<Tale, Fault>, AllocError>
+    requires built_in { built_in.now ≡ built_in_namings }
     requires named { kinds.now ≡ kind_names claims.now }
     requires above { parents.now ≡ parents_of kinds.now claims.now }
     requires objects { names_of names.now ≡ named_by sentences.now }
@@ -256,7 +259,16 @@ fn said_in(
     let given = givens.as_slice();
     let doors = doors_of(alloc, kinds, parents, claims)?;
     let keys = names.keys();
-    let scope = Scope::new(keys, kinds, parents, &properties, given, &doors, &variables);
+    let scope = Scope::new(
+        keys,
+        kinds,
+        parents,
+        &properties,
+        given,
+        &doors,
+        &variables,
+        built_in,
+    );
     let mentions = names.mentions();
     let said = judged(alloc, &scope, mentions, claims, statements.as_slice())?;
     Ok(said)
@@ -265,16 +277,26 @@ fn said_in(
 /// What the sentences with these claims and these objects' names mean, but for the actions that they declare.
 fn said_by(
     alloc: Global,
+    built_in: &[Naming],
     claims: &[Claim],
     names: &Names<'_>,
     sentences: &[Sentence],
 ) -> Result<Result<Tale, Fault>, AllocError>
+    requires built_in { built_in.now ≡ built_in_namings }
     requires objects { names_of names.now ≡ named_by sentences.now }
     ensures { IfOk result (λ said. said ≡ said_by claims.now sentences.now) }
 {
     let kinds = kind_names(alloc, claims)?;
     let parents = parents_of(alloc, &kinds, claims)?;
-    let said = said_in(alloc, &kinds, parents.as_slice(), claims, names, sentences)?;
+    let said = said_in(
+        alloc,
+        &kinds,
+        parents.as_slice(),
+        built_in,
+        claims,
+        names,
+        sentences,
+    )?;
     Ok(said)
 }
 
@@ -283,7 +305,13 @@ fn tale_said(alloc: Global, claimed: &Claimed<'_>) -> Result<Result<Tale, Fault>
     ensures { IfOk result (λ said. said ≡ tale_said claimed.now) }
 {
     let sentences = claimed.sentences();
-    let said = said_by(alloc, claimed.claims(), claimed.names(), sentences)?;
+    let said = said_by(
+        alloc,
+        claimed.built_in(),
+        claimed.claims(),
+        claimed.names(),
+        sentences,
+    )?;
     let actions = actions_said(alloc, sentences)?;
     Ok(with_actions(actions, said))
 }

@@ -1,11 +1,12 @@
 //! The names that stand for something: the words of the language, and those that the sentences of a source claim.
 ghost use Rattle.std.specs.Prelude.{◌≡◌, IfOk, OnOk, fold};
+ghost use Rattle.i7_claims.specs.Standings.{built_in_namings};
 ghost use Rattle.i7_names.specs.Known.{known_of, with_name};
 ghost use Rattle.i7_names.specs.Meant.{named_in, with_claim, with_fact, with_naming};
 
 use crate::meant::meaning_as;
 use crate::numbering::Numbering;
-use i7_claims::{Claim, Fact, Naming, built_in_namings};
+use i7_claims::{Claim, Fact, Naming};
 use i7_conditions::{Meaning, Names};
 use std::alloc::{AllocError, Global};
 
@@ -87,18 +88,19 @@ fn add_claims(
     Ok(())
 }
 
-/// The names of the words of the language and of the claims, by these numbers.
+/// The names of the words of the language, which stand for this, and of the claims, by these numbers.
 #[tactic(auto, unfolding(crate::specs::Meant::named_in))]
 pub fn named_in(
     alloc: Global,
     numbering: &Numbering<'_>,
+    built_in: &[Naming],
     claims: &[Claim],
 ) -> Result<Names, AllocError>
+    requires { built_in.now ≡ built_in_namings }
     ensures { IfOk result (λ names. known_of names ≡ named_in numbering.now claims.now) }
 {
-    let built_in = built_in_namings(alloc)?;
     let mut names = Names::new(alloc);
-    add_namings(alloc, numbering, &mut names, built_in.as_slice())?;
+    add_namings(alloc, numbering, &mut names, built_in)?;
     add_claims(alloc, numbering, &mut names, claims)?;
     Ok(names)
 }

@@ -1,12 +1,13 @@
 //! What the names of a source stand for.
 ghost use Rattle.std.specs.Prelude.{◌≡◌, IfOk};
+ghost use Rattle.i7_claims.specs.Standings.{built_in_namings};
 ghost use Rattle.i7_names.specs.Known.{known_of};
 ghost use Rattle.i7_names.specs.SourceNames.{known_by, known_in, names_in, rulebooks_by, rulebooks_in, scene_count, scenes_by};
 
 use crate::naming::named_in;
 use crate::numbering::{Numbering, numbering_of};
 use crate::plural_names::add_plurals;
-use i7_claims::{Claim, Claimed, Sort, names_as};
+use i7_claims::{Claim, Claimed, Naming, Sort, names_as};
 use i7_conditions::Names;
 use object_words::Strings;
 use std::alloc::{AllocError, Global};
@@ -22,21 +23,33 @@ pub struct SourceNames {
 }
 
 /// What names and plurals stand for by these numbers and claims.
-fn known_in(alloc: Global, numbering: &Numbering<'_>, claims: &[Claim]) -> Result<Names, AllocError>
+fn known_in(
+    alloc: Global,
+    numbering: &Numbering<'_>,
+    built_in: &[Naming],
+    claims: &[Claim],
+) -> Result<Names, AllocError>
+    requires { built_in.now ≡ built_in_namings }
     ensures { IfOk result (λ names. known_of names ≡ known_in numbering.now claims.now) }
 {
-    let mut names = named_in(alloc, numbering, claims)?;
+    let mut names = named_in(alloc, numbering, built_in, claims)?;
     add_plurals(alloc, numbering.kinds(), &mut names)?;
     Ok(names)
 }
 
 /// What names stand for by these claims, where the objects have these names.
 #[tactic(auto, unfolding(crate::specs::SourceNames::known_by))]
-fn known_by(alloc: Global, objects: &Strings, claims: &[Claim]) -> Result<Names, AllocError>
+fn known_by(
+    alloc: Global,
+    objects: &Strings,
+    built_in: &[Naming],
+    claims: &[Claim],
+) -> Result<Names, AllocError>
+    requires { built_in.now ≡ built_in_namings }
     ensures { IfOk result (λ names. known_of names ≡ known_by objects.now claims.now) }
 {
     let numbering = numbering_of(alloc, objects, claims)?;
-    let names = known_in(alloc, &numbering, claims)?;
+    let names = known_in(alloc, &numbering, built_in, claims)?;
     Ok(names)
 }
 
@@ -66,7 +79,8 @@ pub fn names_in(alloc: Global, claimed: &Claimed<'_>) -> Result<SourceNames, All
     ensures scenes { IfOk result (λ source. source.scenes ≡ scene_count claimed.now) }
 {
     let claims = claimed.claims();
-    let names = known_by(alloc, claimed.names().keys(), claims)?;
+    let built_in = claimed.built_in();
+    let names = known_by(alloc, claimed.names().keys(), built_in, claims)?;
     let rulebooks = rulebooks_by(alloc, claims)?;
     let scenes = scenes_by(alloc, claims)?;
     Ok(SourceNames {

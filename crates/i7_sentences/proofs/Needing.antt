@@ -6,7 +6,7 @@ use Rattle.std.proofs.lemmas.Bool.{and_parts, eqb-true, false≢true}
 use Rattle.i7_lexer.specs.declared.token.Token.{Token}
 use Rattle.i7_sentences.specs.Forms.{Variant}
 use Rattle.i7_sentences.specs.Matching.{best_fit}
-use Rattle.i7_sentences.specs.Needed.{are_needed, first_word, is_at, is_lacking, needs, other_words}
+use Rattle.i7_sentences.specs.Needed.{is_at, is_lacking, needs}
 use Rattle.i7_sentences.specs.Signs.{is_marked, is_unmarked, place_of, table_of}
 use Rattle.i7_sentences.specs.declared.keyword.Keyword.{Keyword}
 use Rattle.i7_sentences.specs.declared.form.Piece.{Piece}
@@ -34,15 +34,3 @@ none_fits table tokens keyword same lacks (variant ∷ variants) all =
 pub lacking_best : (table : List Bool) (tokens : List Token) (word : Option Keyword) (variants : List Variant) → table ≡ table_of tokens → is_lacking table word ≡ true → list_all (needs word) variants ≡ true → best_fit variants tokens ≡ None
 lacking_best table tokens None variants same lacks all = absurd (false≢true lacks)
 lacking_best table tokens (Some keyword) variants same lacks all = none_fits table tokens keyword same lacks variants all
-
-need_none : (variants : List Variant) → list_all (needs None) variants ≡ true
-need_none [] = refl
-need_none (variant ∷ variants) = need_none variants
-
-pub first_needed : (words : List (Option Keyword)) (variants : List Variant) (forms : List (List Variant)) → are_needed words (variants ∷ forms) ≡ true → list_all (needs (first_word words)) variants ≡ true
-first_needed [] variants forms all = need_none variants
-first_needed (word ∷ words) variants forms all = (and_parts (list_all (needs word) variants) (are_needed words forms) all).0
-
-pub others_needed : (words : List (Option Keyword)) (variants : List Variant) (forms : List (List Variant)) → are_needed words (variants ∷ forms) ≡ true → are_needed (other_words words) forms ≡ true
-others_needed [] variants forms all = refl
-others_needed (word ∷ words) variants forms all = (and_parts (list_all (needs word) variants) (are_needed words forms) all).1

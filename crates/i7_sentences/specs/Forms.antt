@@ -9,7 +9,7 @@ use Rattle.i7_sentences.specs.declared.class.Class.{Class}
 use Rattle.i7_sentences.specs.declared.form.Form.{Form}
 use Rattle.i7_sentences.specs.declared.form.Piece.{Piece}
 use Rattle.i7_sentences.specs.declared.form.Piece.TheVariants.{Word, Letter}
-use Rattle.i7_sentences.specs.declared.form.TheConstants.{HIGHER_FORMS, LOWER_FORMS, MIDDLE_FORMS}
+use Rattle.i7_sentences.specs.declared.sentence_form.TheConstants.{HIGHER_FORMS, LOWER_FORMS, MIDDLE_FORMS}
 
 -- a variant of a form
 pub record Variant : Type 0 where
@@ -93,12 +93,12 @@ IsUnread forms tokens = All (AreUnfit tokens) forms
 
 -- the forms up to those of rules, lowest first
 unfoldable pub lower_forms : List (List Variant)
-lower_forms = map (λ form. map (λ variant. record { form = variant.0; pieces = variant.1.now }) form.now) LOWER_FORMS
+lower_forms = map (λ form. map (λ variant. record { form = variant.0; pieces = variant.1.now }) form.1.now) LOWER_FORMS
 
 -- the forms behind those of rules that are tried before those that speak of kinds of value
 unfoldable pub middle_forms : List (List Variant)
-middle_forms = map (λ form. map (λ variant. record { form = variant.0; pieces = variant.1.now }) form.now) MIDDLE_FORMS
+middle_forms = map (λ form. map (λ variant. record { form = variant.0; pieces = variant.1.now }) form.1.now) MIDDLE_FORMS
 
 -- the forms that are tried after them
 unfoldable pub higher_forms : List (List Variant)
-higher_forms = map (λ form. map (λ variant. record { form = variant.0; pieces = variant.1.now }) form.now) HIGHER_FORMS
+higher_forms = map (λ form. map (λ variant. record { form = variant.0; pieces = variant.1.now }) form.1.now) HIGHER_FORMS

@@ -1,6 +1,6 @@
 -- Words and marks of forms' own without which no variant of a form fits.
-use Rattle.std.specs.Prelude.{ℕ, ◌==◌, Bool, true, false, not, ◌&&◌, List, [], ◌∷◌, Option, Some, None}
-use Rattle.std.specs.List.{list_all, list_any}
+use Rattle.std.specs.Prelude.{ℕ, ◌==◌, Bool, true, false, not, List, [], ◌∷◌, Option, Some, None}
+use Rattle.std.specs.List.{list_any}
 use Rattle.i7_sentences.specs.Forms.{Variant}
 use Rattle.i7_sentences.specs.Signs.{is_marked, place_of}
 use Rattle.i7_sentences.specs.declared.keyword.Keyword.{Keyword}
@@ -17,21 +17,7 @@ abbrev pub needs : Option Keyword → Variant → Bool
 needs None variant = true
 needs (Some keyword) variant = list_any (is_at (place_of keyword)) variant.pieces
 
--- of each of the first forms a word or mark is told that all of its variants have, or none
-abbrev pub are_needed : List (Option Keyword) → List (List Variant) → Bool
-are_needed [] forms = true
-are_needed (word ∷ words) [] = true
-are_needed (word ∷ words) (variants ∷ forms) = list_all (needs word) variants && are_needed words forms
-
 -- a word or mark is told that isn't marked
 abbrev pub is_lacking : List Bool → Option Keyword → Bool
 is_lacking table None = false
 is_lacking table (Some keyword) = not (is_marked table keyword)
-
-abbrev pub first_word : List (Option Keyword) → Option Keyword
-first_word [] = None
-first_word (word ∷ words) = word
-
-abbrev pub other_words : List (Option Keyword) → List (Option Keyword)
-other_words [] = []
-other_words (word ∷ words) = words

@@ -12,7 +12,7 @@ use Rattle.i7_sentences.specs.declared.phrase_form.TheConstants.{PHRASE_FORMS}
 
 -- the forms of phrases
 unfoldable pub phrase_forms : List (List Variant)
-phrase_forms = map (λ form. map (λ variant. record { form = variant.0; pieces = variant.1.now }) form.now) PHRASE_FORMS
+phrase_forms = map (λ form. map (λ variant. record { form = variant.0; pieces = variant.1.now }) form.1.now) PHRASE_FORMS
 
 abbrev pub is_phrase_form : Form → Option PhraseForm
 is_phrase_form (form.Phrase phrase) = Some phrase

@@ -25,7 +25,7 @@ use Rattle.i7_sentences.specs.declared.rule_head.Head.{Head}
 
 -- the forms of rules, with what may stand in their heads
 unfoldable pub rule_forms : List (List Variant)
-rule_forms = map (λ form. map (λ variant. record { form = variant.0; pieces = variant.1.now }) form.now) RULE_FORMS
+rule_forms = map (λ form. map (λ variant. record { form = variant.0; pieces = variant.1.now }) form.1.now) RULE_FORMS
 
 -- the forms of sentences that are rules, whatever stands behind the words with which their heads begin
 abbrev pub is_rule_form : Form → Bool

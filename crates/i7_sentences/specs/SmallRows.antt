@@ -4,12 +4,12 @@ use Rattle.std.specs.Char.{to_ascii_lowercase}
 use Rattle.std.specs.List.{list_all}
 use Rattle.i7_sentences.specs.Keywords.{Row}
 
-abbrev pub is_small : List ℕ → Bool
-is_small [] = true
-is_small (letter ∷ more) = to_ascii_lowercase letter == letter
+abbrev pub begins_small : List ℕ → Bool
+begins_small [] = true
+begins_small (letter ∷ more) = to_ascii_lowercase letter == letter
 
 abbrev pub are_small : List Row → Bool
-are_small rows = list_all (λ row. is_small row.spelling) rows
+are_small rows = list_all (λ row. begins_small row.spelling) rows
 
 -- the first letter of a word, a capital as a small one
 abbrev pub small_first : List ℕ → ℕ

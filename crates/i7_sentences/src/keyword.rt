@@ -3,7 +3,7 @@ ghost use Rattle.std.specs.Prelude.{◌≡◌, true, length, map};
 ghost use Rattle.std.specs.List.{list_all, slice_get};
 ghost use Rattle.world_meaning.specs.Spelling.{is_spelled};
 ghost use Rattle.i7_sentences.specs.Keywords.{keyword_among, keyword_in, keyword_of, keyword_spelled};
-ghost use Rattle.i7_sentences.specs.SmallRows.{are_small, begins_with, is_small, small_first};
+ghost use Rattle.i7_sentences.specs.SmallRows.{are_small, begins_with, begins_small, small_first};
 
 use crate::word::as_read;
 use i7_lexer::{PackedToken, TokenKind};
@@ -288,7 +288,7 @@ fn begins_with(first: u8, spelling: &[u8]) -> bool
 #[tactic(auto, using(crate::proofs::SmallRows::first_tells))]
 fn is_spelled_from(first: u8, word: &[u8], spelling: &[u8]) -> bool
     requires first { first ≡ small_first word.now }
-    requires small { is_small spelling.now ≡ true }
+    requires small { begins_small spelling.now ≡ true }
     ensures { result ≡ is_spelled word.now spelling.now }
 {
     begins_with(first, spelling) && is_spelled(word, spelling)

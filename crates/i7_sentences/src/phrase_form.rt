@@ -10,7 +10,7 @@ use crate::reading::{Reading, lowest_fit};
 use crate::reserved::has_reserved_among;
 use crate::signs::signs_of;
 use crate::tagged::{Tagged, with_tags};
-use crate::{Class, Form, Keyword, Piece};
+use crate::{Class, Form, FormRow, Keyword, Piece};
 use i7_lexer::PackedToken;
 use std::alloc::{AllocError, Global};
 
@@ -70,93 +70,153 @@ const IF: Piece = Word(Keyword::If);
 const OTHERWISE: Piece = Word(Keyword::Otherwise);
 
 /// The forms of phrases.
-pub const PHRASE_FORMS: [&[(Form, &[Piece])]; 20] = [
-    &[(Form::Phrase(PhraseForm::Say), &[Word(Keyword::Say), TEXT])],
-    &[
-        (
-            Form::Phrase(PhraseForm::Now),
-            &[NOW, WORDS, Word(Keyword::Is), WORDS],
-        ),
-        (
-            Form::Phrase(PhraseForm::Now),
-            &[NOW, WORDS, Word(Keyword::Carries), WORDS],
-        ),
-        (
-            Form::Phrase(PhraseForm::Now),
-            &[NOW, WORDS, Word(Keyword::Wears), WORDS],
-        ),
-    ],
-    &[(
-        Form::Phrase(PhraseForm::Move),
-        &[Word(Keyword::Move), WORDS, Word(Keyword::To), WORDS],
-    )],
-    &[(
-        Form::Phrase(PhraseForm::Increase),
-        &[Word(Keyword::Increase), WORDS, BY, WORDS],
-    )],
-    &[(
-        Form::Phrase(PhraseForm::Decrease),
-        &[Word(Keyword::Decrease), WORDS, BY, WORDS],
-    )],
-    &[(Form::Phrase(PhraseForm::Try), &[Word(Keyword::Try), WORDS])],
-    &[(
-        Form::Phrase(PhraseForm::TrySilently),
-        &[Word(Keyword::Silently), Word(Keyword::Try), WORDS],
-    )],
-    &[(
-        Form::Phrase(PhraseForm::Follow),
-        &[Word(Keyword::Follow), WORDS, Word(Keyword::Rules)],
-    )],
-    &[(
-        Form::Phrase(PhraseForm::RuleSucceeds),
-        &[RULE, Word(Keyword::Succeeds)],
-    )],
-    &[(
-        Form::Phrase(PhraseForm::RuleFails),
-        &[RULE, Word(Keyword::Fails)],
-    )],
-    &[(
-        Form::Phrase(PhraseForm::MakeNoDecision),
+pub const PHRASE_FORMS: [FormRow; 20] = [
+    (
+        Some(Keyword::Say),
+        &[(Form::Phrase(PhraseForm::Say), &[Word(Keyword::Say), TEXT])],
+    ),
+    (
+        Some(Keyword::Now),
         &[
-            Word(Keyword::Make),
-            Word(Keyword::No),
-            Word(Keyword::Decision),
+            (
+                Form::Phrase(PhraseForm::Now),
+                &[NOW, WORDS, Word(Keyword::Is), WORDS],
+            ),
+            (
+                Form::Phrase(PhraseForm::Now),
+                &[NOW, WORDS, Word(Keyword::Carries), WORDS],
+            ),
+            (
+                Form::Phrase(PhraseForm::Now),
+                &[NOW, WORDS, Word(Keyword::Wears), WORDS],
+            ),
         ],
-    )],
-    &[(
-        Form::Phrase(PhraseForm::ContinueAction),
-        &[Word(Keyword::Continue), THE, ACTION],
-    )],
-    &[(
-        Form::Phrase(PhraseForm::StopAction),
-        &[Word(Keyword::Stop), THE, ACTION],
-    )],
-    &[(Form::Phrase(PhraseForm::EndStory), &[END, THE, STORY])],
-    &[(
-        Form::Phrase(PhraseForm::EndStoryFinally),
-        &[END, THE, STORY, Word(Keyword::Finally)],
-    )],
-    &[(
-        Form::Phrase(PhraseForm::EndStorySaying),
-        &[END, THE, STORY, Word(Keyword::Saying), TEXT],
-    )],
-    &[(Form::Phrase(PhraseForm::If), &[IF, WORDS])],
-    &[(
-        Form::Phrase(PhraseForm::OtherwiseIf),
-        &[OTHERWISE, IF, WORDS],
-    )],
-    &[(Form::Phrase(PhraseForm::Otherwise), &[OTHERWISE])],
-    &[(
-        Form::Phrase(PhraseForm::Repeat),
-        &[
-            Word(Keyword::Repeat),
-            Word(Keyword::With),
-            Letter(Class::Name),
-            Word(Keyword::Running),
-            Word(Keyword::Through),
-            WORDS,
-        ],
-    )],
+    ),
+    (
+        Some(Keyword::Move),
+        &[(
+            Form::Phrase(PhraseForm::Move),
+            &[Word(Keyword::Move), WORDS, Word(Keyword::To), WORDS],
+        )],
+    ),
+    (
+        Some(Keyword::Increase),
+        &[(
+            Form::Phrase(PhraseForm::Increase),
+            &[Word(Keyword::Increase), WORDS, BY, WORDS],
+        )],
+    ),
+    (
+        Some(Keyword::Decrease),
+        &[(
+            Form::Phrase(PhraseForm::Decrease),
+            &[Word(Keyword::Decrease), WORDS, BY, WORDS],
+        )],
+    ),
+    (
+        Some(Keyword::Try),
+        &[(Form::Phrase(PhraseForm::Try), &[Word(Keyword::Try), WORDS])],
+    ),
+    (
+        Some(Keyword::Silently),
+        &[(
+            Form::Phrase(PhraseForm::TrySilently),
+            &[Word(Keyword::Silently), Word(Keyword::Try), WORDS],
+        )],
+    ),
+    (
+        Some(Keyword::Follow),
+        &[(
+            Form::Phrase(PhraseForm::Follow),
+            &[Word(Keyword::Follow), WORDS, Word(Keyword::Rules)],
+        )],
+    ),
+    (
+        Some(Keyword::Succeeds),
+        &[(
+            Form::Phrase(PhraseForm::RuleSucceeds),
+            &[RULE, Word(Keyword::Succeeds)],
+        )],
+    ),
+    (
+        Some(Keyword::Fails),
+        &[(
+            Form::Phrase(PhraseForm::RuleFails),
+            &[RULE, Word(Keyword::Fails)],
+        )],
+    ),
+    (
+        Some(Keyword::Make),
+        &[(
+            Form::Phrase(PhraseForm::MakeNoDecision),
+            &[
+                Word(Keyword::Make),
+                Word(Keyword::No),
+                Word(Keyword::Decision),
+            ],
+        )],
+    ),
+    (
+        Some(Keyword::Continue),
+        &[(
+            Form::Phrase(PhraseForm::ContinueAction),
+            &[Word(Keyword::Continue), THE, ACTION],
+        )],
+    ),
+    (
+        Some(Keyword::Stop),
+        &[(
+            Form::Phrase(PhraseForm::StopAction),
+            &[Word(Keyword::Stop), THE, ACTION],
+        )],
+    ),
+    (
+        Some(Keyword::End),
+        &[(Form::Phrase(PhraseForm::EndStory), &[END, THE, STORY])],
+    ),
+    (
+        Some(Keyword::Finally),
+        &[(
+            Form::Phrase(PhraseForm::EndStoryFinally),
+            &[END, THE, STORY, Word(Keyword::Finally)],
+        )],
+    ),
+    (
+        Some(Keyword::Saying),
+        &[(
+            Form::Phrase(PhraseForm::EndStorySaying),
+            &[END, THE, STORY, Word(Keyword::Saying), TEXT],
+        )],
+    ),
+    (
+        Some(Keyword::If),
+        &[(Form::Phrase(PhraseForm::If), &[IF, WORDS])],
+    ),
+    (
+        Some(Keyword::Otherwise),
+        &[(
+            Form::Phrase(PhraseForm::OtherwiseIf),
+            &[OTHERWISE, IF, WORDS],
+        )],
+    ),
+    (
+        Some(Keyword::Otherwise),
+        &[(Form::Phrase(PhraseForm::Otherwise), &[OTHERWISE])],
+    ),
+    (
+        Some(Keyword::Repeat),
+        &[(
+            Form::Phrase(PhraseForm::Repeat),
+            &[
+                Word(Keyword::Repeat),
+                Word(Keyword::With),
+                Letter(Class::Name),
+                Word(Keyword::Running),
+                Word(Keyword::Through),
+                WORDS,
+            ],
+        )],
+    ),
 ];
 
 /// The phrase's form, if a form is one of a phrase.
@@ -195,7 +255,7 @@ pub fn phrase_reading<'a, 'b>(
 {
     let signs = signs_of(tokens);
     let mut columns = ColumnStack::new(alloc);
-    Ok(lowest_fit(alloc, &PHRASE_FORMS, &[], &signs, tokens, &mut columns)?)
+    Ok(lowest_fit(alloc, &PHRASE_FORMS, &signs, tokens, &mut columns)?)
 }
 
 /// What a phrase is by its shape, without its mark and a closing `instead`; none where no form fits.

@@ -4,28 +4,25 @@ ghost use Rattle.std.specs.List.{list_all};
 ghost use Rattle.i7_sentences.specs.Forms.{are_shorter, higher_forms, lower_forms, middle_forms};
 ghost use Rattle.i7_sentences.specs.Matching.{FitAlike, best_fit, first_fit, found_as, lowest_fit, preferred};
 ghost use Rattle.i7_sentences.specs.Found.{found_in};
-ghost use Rattle.i7_sentences.specs.Needed.{are_needed, needs};
+ghost use Rattle.i7_sentences.specs.Needed.{is_lacking, needs};
 ghost use Rattle.i7_sentences.specs.Signs.{table_of};
 
 use crate::column_stack::ColumnStack;
-use crate::form::{HIGHER_FORMS, LOWER_FORMS, MIDDLE_FORMS};
 use crate::matcher::{fit, is_passed_over};
-use crate::needed::{
-    HIGHER_NEEDED, LOWER_NEEDED, MIDDLE_NEEDED, first_word, is_lacking, other_words,
-};
+use crate::sentence_form::{HIGHER_FORMS, LOWER_FORMS, MIDDLE_FORMS};
 use crate::signs::Signs;
 use crate::tagged::Tagged;
-use crate::{Form, Keyword, Piece};
+use crate::{Form, FormRow, Keyword, Piece};
 use std::alloc::{AllocError, Global};
 
 /// The lower forms at one place of memory.
-static LOWER: [&[(Form, &[Piece])]; 13] = LOWER_FORMS;
+static LOWER: [FormRow; 13] = LOWER_FORMS;
 
 /// The middle forms.
-static MIDDLE: [&[(Form, &[Piece])]; 5] = MIDDLE_FORMS;
+static MIDDLE: [FormRow; 5] = MIDDLE_FORMS;
 
 /// The higher forms.
-static HIGHER: [&[(Form, &[Piece])]; 12] = HIGHER_FORMS;
+static HIGHER: [FormRow; 12] = HIGHER_FORMS;
 
 /// How a sentence is read: a form's variant, and the words for its letters.
 #[derive(Drop)]
@@ -142,6 +139,16 @@ fn best_fit<'a, 'b>(
     }
 }
 
+/// Whether a word or mark is told that isn't marked.
+fn is_lacking(word: Option<Keyword>, signs: &Signs) -> bool
+    ensures { result ≡ is_lacking signs.now word }
+{
+    match word {
+        None => false,
+        Some(keyword) => !signs.is_marked(keyword),
+    }
+}
+
 /// The variants of a form from the first on that isn't passed over; none where a word or mark that all need isn't there.
 #[inline(always)]
 fn variants_left<'a>(
@@ -160,30 +167,26 @@ fn variants_left<'a>(
     without_unfit(variants, signs, tokens)
 }
 
-/// The best fit of the lowest of these forms that fits; of the first of them it is told what they need.
-#[tactic(auto, using(crate::proofs::Needing::first_needed, crate::proofs::Needing::others_needed))]
+/// The best fit of the lowest of these forms that fits.
 pub fn lowest_fit<'a, 'b>(
     alloc: Global,
-    forms: &[&[(Form, &'static [Piece])]],
-    needed: &[Option<Keyword>],
+    forms: &[FormRow],
     signs: &Signs,
     tokens: &'a [Tagged<'b>],
     columns: &mut ColumnStack,
 ) -> Result<Option<Reading<'a, 'b>>, AllocError>
     requires signs { signs.now ≡ table_of tokens.now }
-    requires needed { are_needed needed.now (map (λ form. map (λ variant. record { form = variant.0; pieces = variant.1.now }) form.now) forms.now) ≡ true }
-    ensures { IfOk result (λ found. option_map found_in found ≡ lowest_fit (map (λ form. map (λ variant. record { form = variant.0; pieces = variant.1.now }) form.now) forms.now) tokens.now) }
+    requires needed { list_all (λ form. list_all (needs form.0) (map (λ variant. record { form = variant.0; pieces = variant.1.now }) form.1.now)) forms.now ≡ true }
+    ensures { IfOk result (λ found. option_map found_in found ≡ lowest_fit (map (λ form. map (λ variant. record { form = variant.0; pieces = variant.1.now }) form.1.now) forms.now) tokens.now) }
 {
-    let mut words = needed;
     let mut rest = forms;
     while let [form, after @ ..] = rest {
-        let variants = variants_left(form, first_word(words), signs, tokens);
+        let variants = variants_left(form.1, form.0, signs, tokens);
         if !variants.is_empty() {
             if let Some(reading) = best_fit(alloc, variants, signs, tokens, columns)? {
                 return Ok(Some(reading));
             }
         }
-        words = other_words(words);
         rest = after;
     }
     Ok(None)
@@ -201,7 +204,7 @@ pub fn lower_reading<'a, 'b>(
     requires { signs.now ≡ table_of tokens.now }
     ensures { IfOk result (λ found. option_map found_in found ≡ lowest_fit lower_forms tokens.now) }
 {
-    Ok(lowest_fit(alloc, &LOWER, &LOWER_NEEDED, signs, tokens, columns)?)
+    Ok(lowest_fit(alloc, &LOWER, signs, tokens, columns)?)
 }
 
 /// The same by the middle forms.
@@ -215,7 +218,7 @@ pub fn middle_reading<'a, 'b>(
     requires { signs.now ≡ table_of tokens.now }
     ensures { IfOk result (λ found. option_map found_in found ≡ lowest_fit middle_forms tokens.now) }
 {
-    Ok(lowest_fit(alloc, &MIDDLE, &MIDDLE_NEEDED, signs, tokens, columns)?)
+    Ok(lowest_fit(alloc, &MIDDLE, signs, tokens, columns)?)
 }
 
 /// The same by the higher forms.
@@ -229,5 +232,5 @@ pub fn higher_reading<'a, 'b>(
     requires { signs.now ≡ table_of tokens.now }
     ensures { IfOk result (λ found. option_map found_in found ≡ lowest_fit higher_forms tokens.now) }
 {
-    Ok(lowest_fit(alloc, &HIGHER, &HIGHER_NEEDED, signs, tokens, columns)?)
+    Ok(lowest_fit(alloc, &HIGHER, signs, tokens, columns)?)
 }

@@ -9,7 +9,7 @@ use crate::form::Piece::{Letter, Word};
 use crate::reading::{Reading, lowest_fit};
 use crate::signs::signs_of;
 use crate::tagged::Tagged;
-use crate::{Class, Form, Keyword, Piece};
+use crate::{Class, Form, FormRow, Keyword, Piece};
 use std::alloc::{AllocError, Global};
 
 /// Which book a head names.
@@ -104,181 +104,214 @@ const IS: Piece = Word(Keyword::Is);
 const CLOSE: Piece = Word(Keyword::Close);
 
 /// The forms of rules, of which the first that fits is meant: one for each book, in the order of the sentence forms.
-pub const RULE_FORMS: [&[(Form, &[Piece])]; 11] = [
-    &[
-        (
-            Form::Head(HeadBook::Before, HeadParts::Pattern),
-            &[BEFORE, WORDS, BODY],
-        ),
-        (
-            Form::NamedHead(HeadBook::Before, HeadParts::Pattern),
-            &[BEFORE, WORDS, OPEN, THIS, IS, WORDS, RULE, CLOSE, BODY],
-        ),
-    ],
-    &[
-        (
-            Form::Head(HeadBook::Instead, HeadParts::Pattern),
-            &[INSTEAD, OF, WORDS, BODY],
-        ),
-        (
-            Form::NamedHead(HeadBook::Instead, HeadParts::Pattern),
-            &[INSTEAD, OF, WORDS, OPEN, THIS, IS, WORDS, RULE, CLOSE, BODY],
-        ),
-    ],
-    &[
-        (
-            Form::Head(HeadBook::Check, HeadParts::Pattern),
-            &[CHECK, WORDS, BODY],
-        ),
-        (
-            Form::NamedHead(HeadBook::Check, HeadParts::Pattern),
-            &[CHECK, WORDS, OPEN, THIS, IS, WORDS, RULE, CLOSE, BODY],
-        ),
-    ],
-    &[
-        (
-            Form::Head(HeadBook::CarryOut, HeadParts::Pattern),
-            &[CARRY, OUT, WORDS, BODY],
-        ),
-        (
-            Form::NamedHead(HeadBook::CarryOut, HeadParts::Pattern),
-            &[CARRY, OUT, WORDS, OPEN, THIS, IS, WORDS, RULE, CLOSE, BODY],
-        ),
-    ],
-    &[
-        (
-            Form::Head(HeadBook::After, HeadParts::Pattern),
-            &[AFTER, WORDS, BODY],
-        ),
-        (
-            Form::NamedHead(HeadBook::After, HeadParts::Pattern),
-            &[AFTER, WORDS, OPEN, THIS, IS, WORDS, RULE, CLOSE, BODY],
-        ),
-    ],
-    &[
-        (
-            Form::Head(HeadBook::Report, HeadParts::Pattern),
-            &[REPORT, WORDS, BODY],
-        ),
-        (
-            Form::NamedHead(HeadBook::Report, HeadParts::Pattern),
-            &[REPORT, WORDS, OPEN, THIS, IS, WORDS, RULE, CLOSE, BODY],
-        ),
-    ],
-    &[
-        (
-            Form::Head(HeadBook::EveryTurn, HeadParts::Nothing),
-            &[EVERY, TURN, BODY],
-        ),
-        (
-            Form::NamedHead(HeadBook::EveryTurn, HeadParts::Nothing),
-            &[EVERY, TURN, OPEN, THIS, IS, WORDS, RULE, CLOSE, BODY],
-        ),
-        (
-            Form::Head(HeadBook::EveryTurn, HeadParts::Place),
-            &[EVERY, TURN, IN, WORDS, BODY],
-        ),
-        (
-            Form::NamedHead(HeadBook::EveryTurn, HeadParts::Place),
-            &[
-                EVERY, TURN, IN, WORDS, OPEN, THIS, IS, WORDS, RULE, CLOSE, BODY,
-            ],
-        ),
-        (
-            Form::Head(HeadBook::EveryTurn, HeadParts::Scene),
-            &[EVERY, TURN, DURING, WORDS, BODY],
-        ),
-        (
-            Form::NamedHead(HeadBook::EveryTurn, HeadParts::Scene),
-            &[
-                EVERY, TURN, DURING, WORDS, OPEN, THIS, IS, WORDS, RULE, CLOSE, BODY,
-            ],
-        ),
-        (
-            Form::Head(HeadBook::EveryTurn, HeadParts::Condition),
-            &[EVERY, TURN, WHEN, WORDS, BODY],
-        ),
-        (
-            Form::NamedHead(HeadBook::EveryTurn, HeadParts::Condition),
-            &[
-                EVERY, TURN, WHEN, WORDS, OPEN, THIS, IS, WORDS, RULE, CLOSE, BODY,
-            ],
-        ),
-    ],
-    &[
-        (
-            Form::Head(HeadBook::PlayBegins, HeadParts::Nothing),
-            &[WHEN, PLAY, BEGINS, BODY],
-        ),
-        (
-            Form::NamedHead(HeadBook::PlayBegins, HeadParts::Nothing),
-            &[WHEN, PLAY, BEGINS, OPEN, THIS, IS, WORDS, RULE, CLOSE, BODY],
-        ),
-    ],
-    &[
-        (
-            Form::Head(HeadBook::SceneBegins, HeadParts::Nothing),
-            &[WHEN, NAME, BEGINS, BODY],
-        ),
-        (
-            Form::NamedHead(HeadBook::SceneBegins, HeadParts::Nothing),
-            &[WHEN, NAME, BEGINS, OPEN, THIS, IS, WORDS, RULE, CLOSE, BODY],
-        ),
-    ],
-    &[
-        (
-            Form::Head(HeadBook::SceneEnds, HeadParts::Nothing),
-            &[WHEN, NAME, ENDS, BODY],
-        ),
-        (
-            Form::NamedHead(HeadBook::SceneEnds, HeadParts::Nothing),
-            &[WHEN, NAME, ENDS, OPEN, THIS, IS, WORDS, RULE, CLOSE, BODY],
-        ),
-    ],
-    &[
-        (
-            Form::Head(HeadBook::Own, HeadParts::Nothing),
-            &[WORDS, RULE, BODY],
-        ),
-        (
-            Form::NamedHead(HeadBook::Own, HeadParts::Nothing),
-            &[WORDS, RULE, OPEN, THIS, IS, WORDS, RULE, CLOSE, BODY],
-        ),
-        (
-            Form::Head(HeadBook::Own, HeadParts::Place),
-            &[WORDS, RULE, IN, WORDS, BODY],
-        ),
-        (
-            Form::NamedHead(HeadBook::Own, HeadParts::Place),
-            &[
-                WORDS, RULE, IN, WORDS, OPEN, THIS, IS, WORDS, RULE, CLOSE, BODY,
-            ],
-        ),
-        (
-            Form::Head(HeadBook::Own, HeadParts::Scene),
-            &[WORDS, RULE, DURING, WORDS, BODY],
-        ),
-        (
-            Form::NamedHead(HeadBook::Own, HeadParts::Scene),
-            &[
-                WORDS, RULE, DURING, WORDS, OPEN, THIS, IS, WORDS, RULE, CLOSE, BODY,
-            ],
-        ),
-        (
-            Form::Head(HeadBook::Own, HeadParts::Condition),
-            &[WORDS, RULE, WHEN, WORDS, BODY],
-        ),
-        (
-            Form::NamedHead(HeadBook::Own, HeadParts::Condition),
-            &[
-                WORDS, RULE, WHEN, WORDS, OPEN, THIS, IS, WORDS, RULE, CLOSE, BODY,
-            ],
-        ),
-    ],
+pub const RULE_FORMS: [FormRow; 11] = [
+    (
+        Some(Keyword::Before),
+        &[
+            (
+                Form::Head(HeadBook::Before, HeadParts::Pattern),
+                &[BEFORE, WORDS, BODY],
+            ),
+            (
+                Form::NamedHead(HeadBook::Before, HeadParts::Pattern),
+                &[BEFORE, WORDS, OPEN, THIS, IS, WORDS, RULE, CLOSE, BODY],
+            ),
+        ],
+    ),
+    (
+        Some(Keyword::Instead),
+        &[
+            (
+                Form::Head(HeadBook::Instead, HeadParts::Pattern),
+                &[INSTEAD, OF, WORDS, BODY],
+            ),
+            (
+                Form::NamedHead(HeadBook::Instead, HeadParts::Pattern),
+                &[INSTEAD, OF, WORDS, OPEN, THIS, IS, WORDS, RULE, CLOSE, BODY],
+            ),
+        ],
+    ),
+    (
+        Some(Keyword::Check),
+        &[
+            (
+                Form::Head(HeadBook::Check, HeadParts::Pattern),
+                &[CHECK, WORDS, BODY],
+            ),
+            (
+                Form::NamedHead(HeadBook::Check, HeadParts::Pattern),
+                &[CHECK, WORDS, OPEN, THIS, IS, WORDS, RULE, CLOSE, BODY],
+            ),
+        ],
+    ),
+    (
+        Some(Keyword::Carry),
+        &[
+            (
+                Form::Head(HeadBook::CarryOut, HeadParts::Pattern),
+                &[CARRY, OUT, WORDS, BODY],
+            ),
+            (
+                Form::NamedHead(HeadBook::CarryOut, HeadParts::Pattern),
+                &[CARRY, OUT, WORDS, OPEN, THIS, IS, WORDS, RULE, CLOSE, BODY],
+            ),
+        ],
+    ),
+    (
+        Some(Keyword::After),
+        &[
+            (
+                Form::Head(HeadBook::After, HeadParts::Pattern),
+                &[AFTER, WORDS, BODY],
+            ),
+            (
+                Form::NamedHead(HeadBook::After, HeadParts::Pattern),
+                &[AFTER, WORDS, OPEN, THIS, IS, WORDS, RULE, CLOSE, BODY],
+            ),
+        ],
+    ),
+    (
+        Some(Keyword::Report),
+        &[
+            (
+                Form::Head(HeadBook::Report, HeadParts::Pattern),
+                &[REPORT, WORDS, BODY],
+            ),
+            (
+                Form::NamedHead(HeadBook::Report, HeadParts::Pattern),
+                &[REPORT, WORDS, OPEN, THIS, IS, WORDS, RULE, CLOSE, BODY],
+            ),
+        ],
+    ),
+    (
+        Some(Keyword::Every),
+        &[
+            (
+                Form::Head(HeadBook::EveryTurn, HeadParts::Nothing),
+                &[EVERY, TURN, BODY],
+            ),
+            (
+                Form::NamedHead(HeadBook::EveryTurn, HeadParts::Nothing),
+                &[EVERY, TURN, OPEN, THIS, IS, WORDS, RULE, CLOSE, BODY],
+            ),
+            (
+                Form::Head(HeadBook::EveryTurn, HeadParts::Place),
+                &[EVERY, TURN, IN, WORDS, BODY],
+            ),
+            (
+                Form::NamedHead(HeadBook::EveryTurn, HeadParts::Place),
+                &[
+                    EVERY, TURN, IN, WORDS, OPEN, THIS, IS, WORDS, RULE, CLOSE, BODY,
+                ],
+            ),
+            (
+                Form::Head(HeadBook::EveryTurn, HeadParts::Scene),
+                &[EVERY, TURN, DURING, WORDS, BODY],
+            ),
+            (
+                Form::NamedHead(HeadBook::EveryTurn, HeadParts::Scene),
+                &[
+                    EVERY, TURN, DURING, WORDS, OPEN, THIS, IS, WORDS, RULE, CLOSE, BODY,
+                ],
+            ),
+            (
+                Form::Head(HeadBook::EveryTurn, HeadParts::Condition),
+                &[EVERY, TURN, WHEN, WORDS, BODY],
+            ),
+            (
+                Form::NamedHead(HeadBook::EveryTurn, HeadParts::Condition),
+                &[
+                    EVERY, TURN, WHEN, WORDS, OPEN, THIS, IS, WORDS, RULE, CLOSE, BODY,
+                ],
+            ),
+        ],
+    ),
+    (
+        Some(Keyword::Play),
+        &[
+            (
+                Form::Head(HeadBook::PlayBegins, HeadParts::Nothing),
+                &[WHEN, PLAY, BEGINS, BODY],
+            ),
+            (
+                Form::NamedHead(HeadBook::PlayBegins, HeadParts::Nothing),
+                &[WHEN, PLAY, BEGINS, OPEN, THIS, IS, WORDS, RULE, CLOSE, BODY],
+            ),
+        ],
+    ),
+    (
+        Some(Keyword::Begins),
+        &[
+            (
+                Form::Head(HeadBook::SceneBegins, HeadParts::Nothing),
+                &[WHEN, NAME, BEGINS, BODY],
+            ),
+            (
+                Form::NamedHead(HeadBook::SceneBegins, HeadParts::Nothing),
+                &[WHEN, NAME, BEGINS, OPEN, THIS, IS, WORDS, RULE, CLOSE, BODY],
+            ),
+        ],
+    ),
+    (
+        Some(Keyword::Ends),
+        &[
+            (
+                Form::Head(HeadBook::SceneEnds, HeadParts::Nothing),
+                &[WHEN, NAME, ENDS, BODY],
+            ),
+            (
+                Form::NamedHead(HeadBook::SceneEnds, HeadParts::Nothing),
+                &[WHEN, NAME, ENDS, OPEN, THIS, IS, WORDS, RULE, CLOSE, BODY],
+            ),
+        ],
+    ),
+    (
+        Some(Keyword::Rule),
+        &[
+            (
+                Form::Head(HeadBook::Own, HeadParts::Nothing),
+                &[WORDS, RULE, BODY],
+            ),
+            (
+                Form::NamedHead(HeadBook::Own, HeadParts::Nothing),
+                &[WORDS, RULE, OPEN, THIS, IS, WORDS, RULE, CLOSE, BODY],
+            ),
+            (
+                Form::Head(HeadBook::Own, HeadParts::Place),
+                &[WORDS, RULE, IN, WORDS, BODY],
+            ),
+            (
+                Form::NamedHead(HeadBook::Own, HeadParts::Place),
+                &[
+                    WORDS, RULE, IN, WORDS, OPEN, THIS, IS, WORDS, RULE, CLOSE, BODY,
+                ],
+            ),
+            (
+                Form::Head(HeadBook::Own, HeadParts::Scene),
+                &[WORDS, RULE, DURING, WORDS, BODY],
+            ),
+            (
+                Form::NamedHead(HeadBook::Own, HeadParts::Scene),
+                &[
+                    WORDS, RULE, DURING, WORDS, OPEN, THIS, IS, WORDS, RULE, CLOSE, BODY,
+                ],
+            ),
+            (
+                Form::Head(HeadBook::Own, HeadParts::Condition),
+                &[WORDS, RULE, WHEN, WORDS, BODY],
+            ),
+            (
+                Form::NamedHead(HeadBook::Own, HeadParts::Condition),
+                &[
+                    WORDS, RULE, WHEN, WORDS, OPEN, THIS, IS, WORDS, RULE, CLOSE, BODY,
+                ],
+            ),
+        ],
+    ),
 ];
 
 /// The forms at one place of memory.
-static TABLE: [&[(Form, &[Piece])]; 11] = RULE_FORMS;
+static TABLE: [FormRow; 11] = RULE_FORMS;
 
 /// Whether a form is one of rules.
 pub fn is_rule_form(form: Form) -> bool
@@ -328,5 +361,5 @@ pub fn rule_reading<'a, 'b>(
     ensures { IfOk result (λ found. option_map found_in found ≡ lowest_fit rule_forms tokens.now) }
 {
     let signs = signs_of(tokens);
-    Ok(lowest_fit(alloc, &TABLE, &[], &signs, tokens, columns)?)
+    Ok(lowest_fit(alloc, &TABLE, &signs, tokens, columns)?)
 }
