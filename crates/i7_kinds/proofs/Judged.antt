@@ -18,14 +18,13 @@ use Rattle.i7_claims.proofs.NameScans.{name_lowest}
 use Rattle.i7_claims.proofs.ListScans.{list_lowest}
 use Rattle.i7_claims.proofs.SortScans.{lists_lowest, too_many_lowest}
 use Rattle.i7_kinds.specs.Actions.{actions_said, with_actions}
-use Rattle.i7_kinds.specs.Demands.{descriptions_of, line_at, line_of_statement}
+use Rattle.i7_kinds.specs.Demands.{line_at, line_of_statement}
 use Rattle.i7_kinds.specs.FirstShown.{IsFound, IsShownAt}
 use Rattle.i7_lexer.specs.Rising.{LinesRise}
-use Rattle.i7_kinds.specs.Judged.{AreJudged, IsRefusedFor, Refusal, said_twice, names_nothing, closes_cycle, wrong_kind, stands_twice, one_too_many, roomless, valueless, too_long, Shows, code_of, knowns_said, parents_said, scope_said, turn_of}
-use Rattle.i7_kinds.specs.LongNames.{longer_name}
+use Rattle.i7_kinds.specs.Judged.{AreJudged, IsRefusedFor, Refusal, said_twice, names_nothing, closes_cycle, wrong_kind, stands_twice, one_too_many, roomless, valueless, IsFirstLong, Shows, ShowsLong, code_of, knowns_said, parents_said, scope_said, turn_of}
 use Rattle.i7_kinds.specs.RefusalsShown.{IsRefusedRoomless}
 use Rattle.i7_kinds.specs.Suits.{first_room}
-use Rattle.i7_kinds.specs.Tales.{faults_of, frame_refusal, limit_refusal, name_too_long, no_room, object_too_many, or_refused, refusal_at, refusal_of, tale_said, text_too_long}
+use Rattle.i7_kinds.specs.Tales.{faults_of, frame_refusal, long_in, long_said, no_room, object_too_many, or_refused, refusal_at, refusal_of, tale_said}
 use Rattle.i7_kinds.specs.declared.faults.Faults.{Faults}
 use Rattle.i7_kinds.specs.declared.values.Bearer.TheVariants.{Objects, Kinds, Variables}
 use Rattle.i7_kinds.proofs.DescribedAgain.{again_found}
@@ -83,8 +82,7 @@ at_turn (suc (suc (suc zero))) = wrong_kind
 at_turn (suc (suc (suc (suc zero)))) = stands_twice
 at_turn (suc (suc (suc (suc (suc zero))))) = one_too_many
 at_turn (suc (suc (suc (suc (suc (suc zero)))))) = roomless
-at_turn (suc (suc (suc (suc (suc (suc (suc zero))))))) = valueless
-at_turn _ = too_long
+at_turn _ = valueless
 
 turn_back : (r : Refusal) → at_turn (turn_of r) ≡ r
 unfolding at_turn
@@ -96,12 +94,11 @@ turn_back stands_twice = refl
 turn_back one_too_many = refl
 turn_back roomless = refl
 turn_back valueless = refl
-turn_back too_long = refl
 
 same_turn : (a b : Refusal) → turn_of a ≡ turn_of b → a ≡ b
 same_turn a b e = sym (turn_back a) ∙ ap at_turn e ∙ turn_back b
 
-turns_end : (r : Refusal) → turn_of r < 9
+turns_end : (r : Refusal) → turn_of r < 8
 turns_end said_twice = omega arith
 turns_end names_nothing = omega arith
 turns_end closes_cycle = omega arith
@@ -110,7 +107,6 @@ turns_end stands_twice = omega arith
 turns_end one_too_many = omega arith
 turns_end roomless = omega arith
 turns_end valueless = omega arith
-turns_end too_long = omega arith
 
 module _ (sentences : List Sentence) (Rise : Type 0) where
   -- what refuses sentences that show nothing that is looked for before this turn
@@ -141,7 +137,7 @@ module _ (sentences : List Sentence) (Rise : Type 0) where
     λ other line le lt shown. ⊎_elim (λ same. h line (subst (λ (x : Refusal). Shows sentences x line) same shown)) (λ more. later.5 other line more lt shown) (this_or_later r other le),
   )
 
-  no_turn : JudgedFrom 9 None
+  no_turn : JudgedFrom 8 None
   unfolding JudgedFrom
   no_turn = λ r line le shown. absurd (omega (arith, le, turns_end r))
 
@@ -158,17 +154,6 @@ module _ (sentences : List Sentence) (Rise : Type 0) where
   }
 
 -- ---- the refusals of sentences
-
-one_chain : (a b c d e f g h limit : Option Fault) → first_of (first_of a (first_of b (first_of c (first_of d (first_of e (first_of f (first_of g h))))))) limit
-    ≡ first_of a (first_of b (first_of c (first_of d (first_of e (first_of f (first_of g (first_of h limit)))))))
-one_chain (Some x) b c d e f g h limit = refl
-one_chain None (Some x) c d e f g h limit = refl
-one_chain None None (Some x) d e f g h limit = refl
-one_chain None None None (Some x) e f g h limit = refl
-one_chain None None None None (Some x) f g h limit = refl
-one_chain None None None None None (Some x) g h limit = refl
-one_chain None None None None None None (Some x) h limit = refl
-one_chain None None None None None None None h limit = refl
 
 module _ (sentences : List Sentence) where
   abbrev Rise : Type 0
@@ -242,15 +227,18 @@ module _ (sentences : List Sentence) where
   valueless_if : LowestIf Rise (Shows sentences valueless) all_faults.unlisted
   valueless_if = if_lowest Rise _ _ (unlisted_lowest (claims_of sentences))
 
-  abbrev all_too_long : Option ℕ
-  all_too_long = earlier (name_too_long (named_by sentences).mentions)
-      (earlier (text_too_long (descriptions_of (parents_said sentences) (knowns_said sentences) (stated_by sentences))) (longer_name 65535 (claims_of sentences)))
+  first_long : (found : Option ℕ) → LowestIf Rise (ShowsLong sentences) found → IsFirstLong sentences found
+  unfolding LowestIf
+  first_long None h = h
+  first_long (Some line) h = h
 
-  long_if : LowestIf Rise (Shows sentences too_long) all_too_long
-  long_if =
-      either_if Rise _ _ _ _ (mention_if _ _ (long_name_found (named_by sentences).mentions))
+  pub long_found : IsFirstLong sentences (long_said sentences)
+  unfolding long_in
+  long_found =
+      first_long _
+      (either_if Rise _ _ _ _ (mention_if _ _ (long_name_found (named_by sentences).mentions))
       (either_if Rise _ _ _ _ (statement_if _ _ (long_text_found (parents_said sentences) (knowns_said sentences) (stated_by sentences)))
-      (if_lowest Rise _ _ (longer_lowest 65535 (claims_of sentences))))
+      (if_lowest Rise _ _ (longer_lowest 65535 (claims_of sentences)))))
 
   abbrev all_too_many : Option ℕ
   all_too_many = earlier (object_too_many (named_by sentences).mentions) all_faults.too_many
@@ -262,23 +250,17 @@ module _ (sentences : List Sentence) where
   the_refusal = refusal_of (scope_said sentences) (knowns_said sentences) (claims_of sentences) (stated_by sentences) (named_by sentences).mentions
 
   judged_refusal : JudgedFrom sentences Rise 0 the_refusal
-  unfolding frame_refusal limit_refusal
+  unfolding frame_refusal
   judged_refusal =
-      subst (λ (f : Option Fault). JudgedFrom sentences Rise 0 f)
-      (sym (one_chain (refusal_at (code_of said_twice) all_faults.twice) (refusal_at (code_of names_nothing) all_faults.unknown) (refusal_at (code_of closes_cycle) all_faults.cycle)
-      (refusal_at (code_of wrong_kind) all_faults.wrong) (refusal_at (code_of stands_twice) all_faults.second) (refusal_at (code_of one_too_many) all_too_many)
-      (refusal_at (code_of roomless) none_room) (refusal_at (code_of valueless) all_faults.unlisted)
-      (refusal_at (code_of too_long) all_too_long)))
-      (one_turn sentences Rise said_twice _ _ twice_if
+      one_turn sentences Rise said_twice _ _ twice_if
       (one_turn sentences Rise names_nothing _ _ unknown_if
       (one_turn sentences Rise closes_cycle _ _ cycle_if
       (one_turn sentences Rise wrong_kind _ _ wrong_if
       (one_turn sentences Rise stands_twice _ _ second_if
       (one_turn sentences Rise one_too_many _ _ too_many_if
       (one_turn sentences Rise roomless _ _ roomless_if
-      (one_turn sentences Rise valueless _ _ valueless_if
-      (subst (λ (f : Option Fault). JudgedFrom sentences Rise 8 f) (first_none (refusal_at (code_of too_long) all_too_long))
-      (one_turn sentences Rise too_long _ _ long_if (no_turn sentences Rise)))))))))))
+      (subst (λ (f : Option Fault). JudgedFrom sentences Rise 7 f) (first_none (refusal_at (code_of valueless) all_faults.unlisted))
+      (one_turn sentences Rise valueless _ _ valueless_if (no_turn sentences Rise)))))))))
 
   pub judged : AreJudged sentences (tale_said sentences)
   judged = judged_as sentences Rise the_refusal (actions_said sentences) _ (λ rise. rise) judged_refusal

@@ -18,12 +18,12 @@ use Rattle.i7_claims.specs.Statements.{NameAt, Named, built_in_keys, has_key, ke
 use Rattle.i7_claims.specs.declared.claim.Claim.{Claim}
 use Rattle.i7_claims.specs.declared.statements.NumberedSentence.{NumberedSentence}
 use Rattle.i7_kinds.specs.Actions.{actions_said, told_with, with_actions}
-use Rattle.i7_kinds.specs.Demands.{descriptions_of, wrong_kind}
+use Rattle.i7_kinds.specs.Demands.{wrong_kind}
 use Rattle.i7_kinds.specs.KindClaims.{kind_cycle, kind_names, unknown_kind}
 use Rattle.i7_kinds.specs.Knowns.{kind_of, kinds_of, known_at, knowns_of, off_path}
 use Rattle.i7_kinds.specs.Places.{holder_cycle}
 use Rattle.i7_kinds.specs.Suits.{first_room, unsuited}
-use Rattle.i7_kinds.specs.Tales.{Made, author_entry, entries_of, faults_of, frame_refusal, kind_at, limit_refusal}
+use Rattle.i7_kinds.specs.Tales.{Made, author_entry, entries_of, faults_of, frame_refusal, kind_at}
 use Rattle.i7_kinds.specs.Tales.{made_of, object_as, objects_of, or_refused, refusal_at, refusal_of, scope_of, tale_said}
 use Rattle.i7_kinds.specs.declared.entries.Entry.{Entry}
 use Rattle.i7_kinds.specs.declared.faults.Faults.{Faults}
@@ -51,9 +51,8 @@ none_found claims keys statements mentions none =
     let knowns = knowns_of s claims in
     let faults = faults_of s knowns claims statements in
     let room = first_room s.parents knowns in
-    let t = first_none_both (frame_refusal faults mentions room) (limit_refusal claims (descriptions_of s.parents knowns statements) mentions) none in
-    let parts = frame_parts faults mentions room t.0 in
-    let names = earlier_none (name_twice claims) _ (none_twice faults mentions room t.0) in
+    let parts = frame_parts faults mentions room none in
+    let names = earlier_none (name_twice claims) _ (none_twice faults mentions room none) in
     record {
       once = names.0;
       listed = (earlier_none (list_twice claims) _ (earlier_none (book_twice claims) _ names.1).1).0;

@@ -2,7 +2,7 @@
 use Rattle.std.proofs.Common.{◌≡◌, ℕ, suc, ◌+◌, ◌≤◌, List, [], ◌∷◌, length, map, Option, sym, ap, ◌∙◌, subst, arith}
 use Rattle.std.specs.Prelude.{None}
 use Rattle.i7_kinds.specs.Bounds.{AreSmallKnowns, AreWithin}
-use Rattle.i7_kinds.specs.Demands.{descriptions_of, wrong_kind}
+use Rattle.i7_kinds.specs.Demands.{wrong_kind}
 use Rattle.i7_kinds.specs.Doors.{doors_of}
 use Rattle.i7_kinds.specs.KindClaims.{declared_by, flags_by, givens_by, kind_names, kind_too_many, numbers_by, parents_of, unknown_kind}
 use Rattle.i7_kinds.specs.Knowns.{Scope, kind_of, known_at, knowns_of, off_path}
@@ -15,13 +15,13 @@ use Rattle.i7_kinds.specs.declared.grants.Given.{Given}
 use Rattle.i7_claims.specs.declared.sorts.Sort.TheVariants as sort
 use Rattle.i7_kinds.proofs.Granting.{flags_counted}
 use Rattle.i7_sentences.specs.declared.sentence.Sentence.{Sentence}
-use Rattle.i7_claims.specs.Statements.{NameAt, Named, named_by, statement_in}
+use Rattle.i7_claims.specs.Statements.{NameAt, Named, named_by, stated_by, statement_in}
 use Rattle.i7_kinds.specs.Suits.{first_room, unsuited}
-use Rattle.i7_kinds.specs.Tales.{faults_of, frame_refusal, limit_refusal, judged, refusal_of, said_by, said_in, scope_of, scope_with}
+use Rattle.i7_kinds.specs.Tales.{faults_of, refusal_of, scope_of, scope_with}
 use Rattle.i7_claims.specs.declared.claim.Claim.{Claim}
 use Rattle.i7_kinds.specs.declared.knowns.Known.{Known}
 use Rattle.i7_claims.specs.declared.statements.NumberedSentence.{NumberedSentence}
-use Rattle.i7_kinds.proofs.Bounds.{counted-source, earlier_none, first_none_both, frame_parts, lead-within, source-within}
+use Rattle.i7_kinds.proofs.Bounds.{counted-source, earlier_none, frame_parts, lead-within, source-within}
 use Rattle.i7_kinds.proofs.Fines.{AreFine, base, kind_few, knowns_counted, knowns_fine}
 use Rattle.i7_kinds.proofs.KindScans.{either_ors_few, kind_names_counted, kinds_small, numbers_few, parents_are_kinds, parents_few}
 use Rattle.i7_kinds.proofs.Placed.{places_small}
@@ -76,8 +76,7 @@ ready claims keys statements mentions within counted none =
     let knowns = knowns_of s claims in
     let faults = faults_of s knowns claims statements in
     let room = first_room s.parents knowns in
-    let t = first_none_both (frame_refusal faults mentions room) (limit_refusal claims (descriptions_of s.parents knowns statements) mentions) none in
-    let fine = frame_parts faults mentions room t.0 in
+    let fine = frame_parts faults mentions room none in
     let off = earlier_none (off_path s claims) (earlier (unsuited s knowns claims) (wrong_kind s.parents knowns statements)) fine.wrong in
     let many = earlier_none (kind_too_many claims) (name_too_many claims) fine.too_many in
     let few : length keys ≤ 1000 = omega (arith, counted, fine.few) in
@@ -130,13 +129,14 @@ scope_meant s kinds parents claims keys h named above =
     ∙ ap (λ (ps : List (Option ℕ)). scope_with kinds ps claims s.objects) above
     ∙ ap (λ (names : List (List ℕ)). scope_with names (parents_of names claims) claims s.objects) named
 
-pub said_same : (kinds : List (List ℕ)) (parents : List (Option ℕ)) (claims : List Claim) (sentences : List Sentence) (s : Scope) (statements : List NumberedSentence) (mentions : List NameAt) (named : Named)
+-- by what is equal to the scope, the statements and the mentions of sentences
+pub said_same : {A : Type 0} (of : Scope → List NumberedSentence → List NameAt → A) (kinds : List (List ℕ)) (parents : List (Option ℕ)) (claims : List Claim) (sentences : List Sentence) (s : Scope) (statements : List NumberedSentence) (mentions : List NameAt) (named : Named)
     → named ≡ named_by sentences → s ≡ scope_with kinds parents claims named.keys → statements ≡ map (statement_in named) sentences → mentions ≡ named.mentions
-    → judged s claims statements mentions ≡ said_in kinds parents claims sentences
-said_same kinds parents claims sentences s statements mentions named same scope stated mentioned =
-    let of_names = λ (n : Named). judged (scope_with kinds parents claims n.keys) claims (map (statement_in n) sentences) n.mentions in
-    (λ i. judged (scope i) claims (stated i) (mentioned i)) ∙ ap of_names same
+    → of s statements mentions ≡ of (scope_with kinds parents claims (named_by sentences).keys) (stated_by sentences) (named_by sentences).mentions
+said_same of kinds parents claims sentences s statements mentions named same scope stated mentioned =
+    let of_names = λ (n : Named). of (scope_with kinds parents claims n.keys) (map (statement_in n) sentences) n.mentions in
+    (λ i. of (scope i) (stated i) (mentioned i)) ∙ ap of_names same
 
-pub said_above : (claims : List Claim) (sentences : List Sentence) (kinds : List (List ℕ)) (parents : List (Option ℕ)) → kinds ≡ kind_names claims → parents ≡ parents_of kinds claims → said_in kinds parents claims sentences ≡ said_by claims sentences
-said_above claims sentences kinds parents named above =
-    ap (λ (ps : List (Option ℕ)). said_in kinds ps claims sentences) above ∙ ap (λ (names : List (List ℕ)). said_in names (parents_of names claims) claims sentences) named
+pub said_above : {A : Type 0} (of : List (List ℕ) → List (Option ℕ) → A) (claims : List Claim) (kinds : List (List ℕ)) (parents : List (Option ℕ)) → kinds ≡ kind_names claims → parents ≡ parents_of kinds claims
+    → of kinds parents ≡ of (kind_names claims) (parents_of (kind_names claims) claims)
+said_above of claims kinds parents named above = ap (of kinds) above ∙ ap (λ (names : List (List ℕ)). of names (parents_of names claims)) named

@@ -1,5 +1,5 @@
 -- What sentences are refused for: that they mean a tale where nothing of it is shown, and else are refused for the first that is.
-use Rattle.std.specs.Prelude.{◌≡◌, ◌⊎◌, ℕ, ◌≤◌, ◌<◌, List, Option, Result, Ok, Err}
+use Rattle.std.specs.Prelude.{◌≡◌, ◌⊎◌, ℕ, ◌≤◌, ◌<◌, List, Option, Some, None, Result, Ok, Err}
 use Rattle.world_meaning.specs.declared.fault.Fault.{Fault}
 use Rattle.world_meaning.specs.declared.fault.FaultCode.{FaultCode}
 use Rattle.world_meaning.specs.declared.fault.FaultCode.TheVariants as fault
@@ -66,7 +66,6 @@ pub data Refusal : Type 0 where
   one_too_many : Refusal
   roomless : Refusal
   valueless : Refusal
-  too_long : Refusal
 
 abbrev pub turn_of : Refusal → ℕ
 turn_of said_twice = 0
@@ -77,7 +76,6 @@ turn_of stands_twice = 4
 turn_of one_too_many = 5
 turn_of roomless = 6
 turn_of valueless = 7
-turn_of too_long = 8
 
 abbrev pub code_of : Refusal → FaultCode
 code_of said_twice = fault.Twice
@@ -88,13 +86,12 @@ code_of stands_twice = fault.TwoPlaces
 code_of one_too_many = fault.TooMany
 code_of roomless = fault.NoRoom
 code_of valueless = fault.NoValues
-code_of too_long = fault.TooMany
 
 -- the sentences show it at this line: a name that stands for two things, a rulebook's that is another's, a second list of values, an object described
 -- otherwise than before, another value of an object's property, of a kind's usual one or of a variable; a kind that isn't
 -- there, or words that name nothing; a cycle of kinds or of holders; demands on no one path, and what the kinds don't allow;
 -- an exit led elsewhere, a second place of an object, a door's rooms told again; an object, a kind or another name that is
--- one too many, or a list of values that is too long; no room, at line 1; a kind of value without values; an object's name, a description or any name that is too long
+-- one too many, or a list of values that is too long; no room, at line 1; a kind of value without values
 abbrev pub Shows : List Sentence → Refusal → ℕ → Type 0
 Shows sentences said_twice line =
     ClaimShows (λ before c. IsTwice before c.fact) sentences line
@@ -128,7 +125,10 @@ Shows sentences one_too_many line =
     ⊎ ClaimShows (λ before c. IsListTooLong c.fact) sentences line)))))))
 Shows sentences roomless line = HasNoRoom (parents_said sentences) (knowns_said sentences) × (line ≡ 1)
 Shows sentences valueless line = ClaimShows (λ before c. IsUnlisted (claims_of sentences) c.fact) sentences line
-Shows sentences too_long line =
+
+-- an object's name, a description or any name that is too long
+abbrev pub ShowsLong : List Sentence → ℕ → Type 0
+ShowsLong sentences line =
     MentionShows (λ before at. IsLongName at.name.text) sentences line
     ⊎ (StatementShows (DescribesAtLength (parents_said sentences) (knowns_said sentences)) sentences line
     ⊎ ClaimShows (λ before c. IsLonger 65535 c.fact) sentences line)
@@ -147,3 +147,8 @@ pub record IsRefusedFor (sentences : List Sentence) (fault : Fault) : Type 0 whe
 abbrev pub AreJudged : List Sentence → Result Tale Fault → Type 0
 AreJudged sentences (Ok tale) = (refusal : Refusal) (line : ℕ) → Shows sentences refusal line → ⊥
 AreJudged sentences (Err fault) = IsRefusedFor sentences fault
+
+-- nothing is too long, or something is at this line, and where the sentences' lines rise at no lower one
+abbrev pub IsFirstLong : List Sentence → Option ℕ → Type 0
+IsFirstLong sentences None = (line : ℕ) → ShowsLong sentences line → ⊥
+IsFirstLong sentences (Some line) = ShowsLong sentences line × (LinesRise (λ s. s.line) sentences → (other : ℕ) → ShowsLong sentences other → line ≤ other)

@@ -1,5 +1,5 @@
 -- The tale that a source's sentences mean, or the refusal that stands.
-use Rattle.std.specs.Prelude.{ℕ, ℤ, pos, ◌+◌, ◌-◌, Bool, not, ◌&&◌, ◌||◌, ◌==◌, nat_lt, List, [], ◌∷◌, ◌++◌, length, map, find, replicate, slice_get, slice_index_or, Option, Some, None, option_map, codes, Result, Ok, Err, if◌then◌else◌}
+use Rattle.std.specs.Prelude.{◌≡◌, ℕ, ℤ, pos, ◌+◌, ◌-◌, Bool, not, ◌&&◌, ◌||◌, ◌==◌, nat_lt, List, [], ◌∷◌, ◌++◌, length, map, find, replicate, slice_get, slice_index_or, Option, Some, None, option_map, codes, IfOk, Result, Ok, Err, if◌then◌else◌}
 use Rattle.std.specs.List.{list_any}
 use Rattle.world_meaning.specs.Directions.{all_directions, direction_name, direction_number}
 use Rattle.world_meaning.specs.declared.article.Article.{Article}
@@ -49,6 +49,7 @@ use Rattle.i7_claims.specs.Sorts.{name_too_many, names_as, property_names}
 use Rattle.i7_claims.specs.declared.sorts.Sort.TheVariants as sort
 use Rattle.i7_kinds.specs.declared.descriptions.Description.{Description}
 use Rattle.i7_claims.specs.declared.statements.NumberedSentence.{NumberedSentence}
+use Rattle.i7_kinds.specs.declared.tale.TaleSaid.{TaleSaid}
 use Rattle.i7_kinds.specs.declared.ways.Target.{Target}
 use Rattle.i7_claims.specs.Statements.{NameAt, named_by, stated_by}
 
@@ -267,14 +268,13 @@ frame_refusal faults mentions room =
     (first_of (refusal_at NoRoom (no_room room))
     (refusal_at NoValues faults.unlisted)))))))
 
--- what is too long
-unfoldable pub limit_refusal : List Claim → List Description → List NameAt → Option Fault
-limit_refusal claims descriptions mentions = refusal_at TooMany (earlier (name_too_long mentions) (earlier (text_too_long descriptions) (longer_name 65535 claims)))
-
 abbrev pub refusal_of : Scope → List Known → List Claim → List NumberedSentence → List NameAt → Option Fault
-refusal_of s knowns claims statements mentions =
-    first_of (frame_refusal (faults_of s knowns claims statements) mentions (first_room s.parents knowns))
-    (limit_refusal claims (descriptions_of s.parents knowns statements) mentions)
+refusal_of s knowns claims statements mentions = frame_refusal (faults_of s knowns claims statements) mentions (first_room s.parents knowns)
+
+-- the lowest line of a name or a description that is too long: C12, but behind what rules and commands are refused for, which have
+-- their own C12
+unfoldable pub long_in : List Claim → List Description → List NameAt → Option ℕ
+long_in claims descriptions mentions = earlier (name_too_long mentions) (earlier (text_too_long descriptions) (longer_name 65535 claims))
 
 abbrev pub or_refused : Option Fault → Tale → Result Tale Fault
 or_refused None tale = Ok tale
@@ -314,6 +314,29 @@ said_in kinds parents claims sentences = judged (scope_with kinds parents claims
 abbrev pub said_by : List Claim → List Sentence → Result Tale Fault
 said_by claims sentences = said_in (kind_names claims) (parents_of (kind_names claims) claims) claims sentences
 
+abbrev pub long_of : Scope → List Claim → List NumberedSentence → List NameAt → Option ℕ
+long_of s claims statements mentions = long_in claims (descriptions_of s.parents (knowns_of s claims) statements) mentions
+
+abbrev pub long_with : List (List ℕ) → List (Option ℕ) → List Claim → List Sentence → Option ℕ
+long_with kinds parents claims sentences = long_of (scope_with kinds parents claims (named_by sentences).keys) claims (stated_by sentences) (named_by sentences).mentions
+
+abbrev pub long_by : List Claim → List Sentence → Option ℕ
+long_by claims sentences = long_with (kind_names claims) (parents_of (kind_names claims) claims) claims sentences
+
+-- the lowest line at which the sentences have a name or a description that is too long
+abbrev pub long_said : List Sentence → Option ℕ
+long_said sentences = long_by (claims_of sentences) sentences
+
 -- the tale of a source's sentences with the actions that they declare, or the refusal that stands
 abbrev pub tale_said : List Sentence → Result Tale Fault
 tale_said sentences = with_actions (actions_said sentences) (said_by (claims_of sentences) sentences)
+
+-- ---- as it is kept
+
+abbrev pub tale_in : Result TaleSaid Fault → Result Tale Fault
+tale_in (Ok said) = Ok said.tale
+tale_in (Err fault) = Err fault
+
+-- where there is a tale, this line is kept beside it
+abbrev pub HasLine : Option ℕ → Result TaleSaid Fault → Type 0
+HasLine line said = IfOk said (λ s. s.long_line ≡ line)

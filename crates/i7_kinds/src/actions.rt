@@ -1,10 +1,12 @@
 //! The author's actions: what each asks for. Nothing is claimed of their names, which are apart.
-ghost use Rattle.std.specs.Prelude.{◌≡◌, IfOk};
+ghost use Rattle.std.specs.Prelude.{◌≡◌, ℕ, IfOk, Option};
 ghost use Rattle.i7_kinds.specs.Actions.{actions_said, with_actions};
+ghost use Rattle.i7_kinds.specs.Tales.{HasLine, tale_in};
 
+use crate::tale::TaleSaid;
 use i7_sentences::{Assertion, Sentence};
 use std::alloc::{AllocError, Global};
-use world_meaning::{Fault, Listed, Needs, Tale};
+use world_meaning::{Fault, Listed, Needs};
 
 /// What the actions ask for that the sentences declare, in their order.
 #[tactic(auto, unfolding(crate::specs::Actions::actions_said))]
@@ -23,10 +25,11 @@ pub fn actions_said(alloc: Global, sentences: &[Sentence]) -> Result<Vec<Needs>,
 }
 
 /// The tale with these actions, unless it is refused.
-pub fn with_actions(actions: Vec<Needs>, said: Result<Tale, Fault>) -> Result<Tale, Fault>
-    ensures { result ≡ with_actions actions.items said }
+pub fn with_actions(actions: Vec<Needs>, said: Result<TaleSaid, Fault>) -> Result<TaleSaid, Fault>
+    ensures tale { tale_in result ≡ with_actions actions.items (tale_in said) }
+    ensures line { (line : Option ℕ) → HasLine line said → HasLine line result }
 {
-    let mut tale = said?;
-    tale.declared.actions = Listed::new(actions);
-    Ok(tale)
+    let mut said = said?;
+    said.tale.declared.actions = Listed::new(actions);
+    Ok(said)
 }

@@ -51,6 +51,6 @@ pub use refusal_laws::{
     lines_rise_with_those_of_sentences, long_descriptions_are_found, long_names_are_found,
     objects_too_many_are_found, one_fault_is_refused, properties_said_are_kept,
     roomless_sources_are_refused, sentences_are_judged, stated_exits_agree,
-    unsuited_claims_are_found, wrong_kinds_are_found,
+    unsuited_claims_are_found, what_is_too_long_is_found, wrong_kinds_are_found,
 };
-pub use tale::tale_of;
+pub use tale::{TaleSaid, tale_of};

@@ -4,12 +4,12 @@ ghost use Rattle.i7_kinds.specs.Demands.{descriptions_of, line_at, line_of_state
 ghost use Rattle.i7_kinds.specs.ExitsShown.{IsLed, IsWayOut};
 ghost use Rattle.i7_kinds.specs.FirstShown.{IsFound};
 ghost use Rattle.i7_lexer.specs.Rising.{LinesRise};
-ghost use Rattle.i7_kinds.specs.Judged.{AreJudged, IsRefusedFor};
+ghost use Rattle.i7_kinds.specs.Judged.{AreJudged, IsFirstLong, IsRefusedFor};
 ghost use Rattle.i7_kinds.specs.Knowns.{Scope, off_path};
 ghost use Rattle.i7_kinds.specs.PropertiesKept.{PropertiesAreKept};
 ghost use Rattle.i7_kinds.specs.RefusalsShown.{DescribesAtLength, IsDescribedAgain, IsLedElsewhere, IsLongName, IsOffPath, IsOneTooMany, IsRefusedRoomless, IsRoomFound, IsUnsuited, IsWrong, States};
 ghost use Rattle.i7_kinds.specs.Suits.{first_room, unsuited};
-ghost use Rattle.i7_kinds.specs.Tales.{name_too_long, no_room, object_too_many, tale_said, text_too_long};
+ghost use Rattle.i7_kinds.specs.Tales.{long_said, name_too_long, no_room, object_too_many, tale_said, text_too_long};
 ghost use Rattle.i7_kinds.specs.TaleExits.{ExitsAreAsSaid};
 ghost use Rattle.i7_kinds.specs.WrittenAbout.{DescriptionsAreAbout, DescriptionsAreThoseSaid};
 ghost use Rattle.i7_kinds.specs.declared.knowns.Known.{Known};
@@ -118,6 +118,11 @@ pub fn lines_rise_with_those_of_sentences()
 /// line that shows it, and at the lowest where their lines rise.
 pub fn sentences_are_judged()
     ensures { (sentences : List Sentence) → AreJudged sentences (tale_said sentences) }
+{}
+
+/// A name or a description of sentences that is too long is found at its lowest line, where their lines rise.
+pub fn what_is_too_long_is_found()
+    ensures { (sentences : List Sentence) → IsFirstLong sentences (long_said sentences) }
 {}
 
 /// Sentences whose lines rise are refused in one way alone.

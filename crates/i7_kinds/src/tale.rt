@@ -9,7 +9,7 @@ ghost use Rattle.i7_kinds.specs.Knowns.{off_path as off_path_of};
 ghost use Rattle.i7_kinds.specs.Places.{places_by};
 ghost use Rattle.i7_kinds.specs.StatedWays.{stated};
 ghost use Rattle.i7_kinds.specs.Suits.{first_room, with_player};
-ghost use Rattle.i7_kinds.specs.Tales.{entries_of, frame_refusal, judged, limit_refusal, made_of, no_room, objects_of, refusal_at, refusal_of, said_by, said_in, scope_of, tale_made, tale_said};
+ghost use Rattle.i7_kinds.specs.Tales.{HasLine, entries_of, frame_refusal, judged, long_by, long_in, long_of, long_said, long_with, made_of, no_room, objects_of, refusal_at, refusal_of, said_by, said_in, scope_of, tale_in, tale_made, tale_said};
 ghost use Rattle.i7_kinds.specs.Ready.{IsReady};
 ghost use Rattle.i7_claims.specs.Standings.{built_in_namings};
 ghost use Rattle.i7_claims.specs.Statements.{named_by};
@@ -39,6 +39,14 @@ use i7_sentences::Sentence;
 use object_words::Strings;
 use std::alloc::{AllocError, Global};
 use world_meaning::{Declared, Fault, FaultCode, Listed, MOST_BYTES, Object, Place, Tale};
+
+/// The tale that sentences mean, and the lowest line at which they have a name or a description that is too long: C12, but
+/// behind what their rules and commands are refused for, which have their own.
+#[derive(Debug, Drop)]
+pub struct TaleSaid {
+    pub tale: Tale,
+    pub long_line: Option<u32>,
+}
 
 /// The refusal at a line, if there is one.
 fn refusal_at(code: FaultCode, line: Option<u32>) -> Option<Fault>
@@ -91,20 +99,20 @@ fn frame_refusal(faults: Faults, mentions: &[Mention<'_>], room: Option<usize>) 
     refusal_at(FaultCode::NoValues, faults.unlisted)
 }
 
-/// The first name or text that is too long.
-#[tactic(auto, unfolding(crate::specs::Tales::limit_refusal))]
-fn limit_refusal(
+/// The lowest line of a name or a text that is too long.
+#[tactic(auto, unfolding(crate::specs::Tales::long_in))]
+fn long_in(
     alloc: Global,
     claims: &[Claim],
     mentions: &[Mention<'_>],
     descriptions: &Descriptions<'_>,
-) -> Result<Option<Fault>, AllocError>
-    ensures { IfOk result (λ refusal. refusal ≡ limit_refusal claims.now (descriptions_in descriptions.now) (mentions_of mentions.now)) }
+) -> Result<Option<u32>, AllocError>
+    ensures { IfOk result (λ line. line ≡ long_in claims.now (descriptions_in descriptions.now) (mentions_of mentions.now)) }
 {
     let name = name_too_long(alloc, mentions)?;
     let text = text_too_long(descriptions.all());
     let other = longer_name(MOST_BYTES, claims);
-    Ok(refusal_at(FaultCode::TooMany, earlier(name, earlier(text, other))))
+    Ok(earlier(name, earlier(text, other)))
 }
 
 /// The refusal that stands, if there is one.
@@ -124,10 +132,7 @@ fn refusal_of(
 {
     let faults = faults_of(alloc, scope, knowns, off_path, claims, descriptions, ways)?;
     let room = first_room(scope.parents(), knowns);
-    match frame_refusal(faults, mentions, room) {
-        Some(fault) => Ok(Some(fault)),
-        None => limit_refusal(alloc, claims, mentions, descriptions),
-    }
+    Ok(frame_refusal(faults, mentions, room))
 }
 
 /// Where each object is, the player in the first room where no sentence says another place.
@@ -217,11 +222,12 @@ fn judged(
     mentions: &[Mention<'_>],
     claims: &[Claim],
     statements: &[NumberedSentence],
-) -> Result<Result<Tale, Fault>, AllocError>
+) -> Result<Result<TaleSaid, Fault>, AllocError>
     requires within { AreWithin (length scope.now.objects) statements.now }
     requires counted { length scope.now.objects ≡ 13 + length (mentions_of mentions.now) }
     requires scope { scope.now ≡ scope_of claims.now scope.now.objects }
-    ensures { IfOk result (λ said. said ≡ judged scope.now claims.now statements.now (mentions_of mentions.now)) }
+    ensures tale { IfOk result (λ said. tale_in said ≡ judged scope.now claims.now statements.now (mentions_of mentions.now)) }
+    ensures line { IfOk result (λ said. HasLine (long_of scope.now claims.now statements.now (mentions_of mentions.now)) said) }
 {
     let all = known_by(alloc, scope, claims)?;
     let known = all.knowns.as_slice();
@@ -233,7 +239,8 @@ fn judged(
         return Ok(Err(fault));
     }
     let tale = tale_made(alloc, scope, known, claims, mentions, &texts, &ways)?;
-    Ok(Ok(tale))
+    let long_line = long_in(alloc, claims, mentions, &texts)?;
+    Ok(Ok(TaleSaid { tale, long_line }))
 }
 
 /// What the sentences mean, where the kinds have these names and these kinds above them.
@@ -245,12 +252,13 @@ fn said_in(
     claims: &[Claim],
     names: &Names<'_>,
     sentences: &[Sentence],
-) -> Result<Result<Tale, Fault>, AllocError>
+) -> Result<Result<TaleSaid, Fault>, AllocError>
     requires built_in { built_in.now ≡ built_in_namings }
     requires named { kinds.now ≡ kind_names claims.now }
     requires above { parents.now ≡ parents_of kinds.now claims.now }
     requires objects { names_of names.now ≡ named_by sentences.now }
-    ensures { IfOk result (λ said. said ≡ said_in kinds.now parents.now claims.now sentences.now) }
+    ensures tale { IfOk result (λ said. tale_in said ≡ said_in kinds.now parents.now claims.now sentences.now) }
+    ensures line { IfOk result (λ said. HasLine (long_with kinds.now parents.now claims.now sentences.now) said) }
 {
     let statements = statements_in(alloc, names, sentences)?;
     let properties = property_names(alloc, claims)?;
@@ -281,10 +289,11 @@ fn said_by(
     claims: &[Claim],
     names: &Names<'_>,
     sentences: &[Sentence],
-) -> Result<Result<Tale, Fault>, AllocError>
+) -> Result<Result<TaleSaid, Fault>, AllocError>
     requires built_in { built_in.now ≡ built_in_namings }
     requires objects { names_of names.now ≡ named_by sentences.now }
-    ensures { IfOk result (λ said. said ≡ said_by claims.now sentences.now) }
+    ensures tale { IfOk result (λ said. tale_in said ≡ said_by claims.now sentences.now) }
+    ensures line { IfOk result (λ said. HasLine (long_by claims.now sentences.now) said) }
 {
     let kinds = kind_names(alloc, claims)?;
     let parents = parents_of(alloc, &kinds, claims)?;
@@ -301,8 +310,9 @@ fn said_by(
 }
 
 /// What the sentences mean: a tale or a refusal.
-fn tale_said(alloc: Global, claimed: &Claimed<'_>) -> Result<Result<Tale, Fault>, AllocError>
-    ensures { IfOk result (λ said. said ≡ tale_said claimed.now) }
+fn tale_said(alloc: Global, claimed: &Claimed<'_>) -> Result<Result<TaleSaid, Fault>, AllocError>
+    ensures tale { IfOk result (λ said. tale_in said ≡ tale_said claimed.now) }
+    ensures line { IfOk result (λ said. HasLine (long_said claimed.now) said) }
 {
     let sentences = claimed.sentences();
     let said = said_by(
@@ -318,9 +328,10 @@ fn tale_said(alloc: Global, claimed: &Claimed<'_>) -> Result<Result<Tale, Fault>
 
 /// The tale that the sentences mean, or the refusal that stands, each code being looked for in the
 /// whole source before the next, at the first sentence that shows it: C9, C7, C11, C8, C10, C12 of what is one too
-/// many, C13, C16, then C12 of names and of texts that are too long. Memory is C14, at line 1.
-pub fn tale_of(alloc: Global, claimed: &Claimed<'_>) -> Result<Tale, Fault>
-    ensures told { IfOk result (λ tale. tale_said claimed.now ≡ Ok tale) }
+/// many, C13, C16. Memory is C14, at line 1.
+pub fn tale_of(alloc: Global, claimed: &Claimed<'_>) -> Result<TaleSaid, Fault>
+    ensures told { IfOk result (λ said. tale_said claimed.now ≡ Ok said.tale) }
+    ensures line { IfOk result (λ said. said.long_line ≡ long_said claimed.now) }
     ensures refused { IfErr result (λ fault. (tale_said claimed.now ≡ Err fault) ⊎ (fault ≡ out_of_memory)) }
 {
     match tale_said(alloc, claimed) {

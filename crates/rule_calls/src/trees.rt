@@ -10,7 +10,7 @@ use std::alloc::{AllocError, Global};
 
 /// The rules of sentences, by what these claim.
 fn rules_by(alloc: Global, claimed: &Claimed<'_>) -> Result<Vec<SourceRule>, Unplayed> {
-    let tale = tale_of(alloc, claimed)?;
+    let tale = tale_of(alloc, claimed)?.tale;
     let names = names_in(alloc, claimed)?;
     if names.rulebooks.len() > 100 || names.scenes > 50 {
         return Err(Unplayed::TooManyNames);

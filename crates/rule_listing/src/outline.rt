@@ -95,7 +95,7 @@ fn rules_of(
 
 /// What is told of sentences that have this story, by what they claim.
 fn told_by(alloc: Global, claimed: &Claimed<'_>, story: &Story) -> Result<String, Unlisted> {
-    let tale = tale_of(alloc, claimed)?;
+    let tale = tale_of(alloc, claimed)?.tale;
     let rules = rules_of(alloc, &tale, claimed)?;
     let names = names_of(alloc, claimed)?;
     let outline = Outline {

@@ -56,7 +56,7 @@ module _ (source : List ℕ) (sentences lent : List Sentence) (says : Says sourc
 
     kept : IsKept tale
     unfolding means
-    kept = tale_kept sentences tale (says_ranged source sentences says) means.meant.tale_is
+    kept = tale_kept sentences tale (says_ranged source sentences says) means.meant.tale_is means.meant.short
 
     pub is_held : IsHeld tale
     is_held = kept.held

@@ -17,9 +17,8 @@ use Rattle.i7_conditions.specs.declared.meaning.Meaning.TheVariants as meaning
 use Rattle.i7_kinds.proofs.DescriptionsSaid.{entries_counted}
 use Rattle.i7_kinds.proofs.Granting.{flags_counted}
 use Rattle.i7_kinds.proofs.KindScans.{kind_names_counted, parents_are_kinds}
-use Rattle.i7_kinds.proofs.Bounds.{counted-source, earlier_none, first_none_both, frame_parts}
+use Rattle.i7_kinds.proofs.Bounds.{counted-source, earlier_none, frame_parts}
 use Rattle.i7_kinds.specs.Grants.{built_in_bases}
-use Rattle.i7_kinds.specs.Demands.{descriptions_of}
 use Rattle.i7_kinds.specs.KindClaims.{declared_by, flags_by, givens_by, is_recurring_by, kind_names, kind_too_many, numbers_by, parents_of}
 use Rattle.i7_kinds.specs.ValueKinds.{value_kinds_from}
 use Rattle.i7_kinds.specs.declared.grants.Given.{Given}
@@ -28,7 +27,7 @@ use Rattle.i7_names.specs.Numbering.{counts_listed}
 use Rattle.i7_kinds.specs.Knowns.{knowns_of}
 use Rattle.i7_kinds.specs.Suits.{first_room}
 use Rattle.i7_kinds.specs.Actions.{actions_said, told_with}
-use Rattle.i7_kinds.specs.Tales.{or_refused, entries_of, faults_of, frame_refusal, limit_refusal, made_of, objects_of, refusal_of, scope_of, tale_said}
+use Rattle.i7_kinds.specs.Tales.{or_refused, entries_of, faults_of, made_of, objects_of, refusal_of, scope_of, tale_said}
 use Rattle.i7_names.specs.SourceNames.{names_in, rulebooks_by, rulebooks_in, scene_count, scenes_by}
 use Rattle.i7_names.specs.There.{counts_in}
 use Rattle.i7_kinds.proofs.PropertiesKept.{parents_many}
@@ -57,8 +56,7 @@ claimed sentences tale meant =
     let t = meant_none (refusal_of s knowns claims statements mentions) whole told.before told.said_is in
     let faults = faults_of s knowns claims statements in
     let found = first_room s.parents knowns in
-    let u = first_none_both (frame_refusal faults mentions found) (limit_refusal claims (descriptions_of s.parents knowns statements) mentions) t.0 in
-    let fine = frame_parts faults mentions found u.0 in
+    let fine = frame_parts faults mentions found t.0 in
     let made : length whole.objects ≡ 13 + length mentions = objects_counted (made_of s knowns claims statements) 0 (entries_of mentions) ∙ entries_counted mentions in (
       (earlier_none (kind_too_many claims) (name_too_many claims) fine.too_many).1,
       ap (λ (made : Tale). (told_with (actions_said sentences) made).declared) t.1 ∙ ap (λ (made : Tale). made.declared) told.tale_is,

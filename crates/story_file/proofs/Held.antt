@@ -16,7 +16,6 @@ use Rattle.world_meaning.specs.Standing.{are_well_placed, place_at}
 use Rattle.world_meaning.specs.WellMade.{IsWellMade, begin_rightly, has_right_exits, kinds_of as kinds_in, places_of as places_in, stands_in_room}
 use Rattle.world_meaning.specs.declared.declared.Declared.{Declared}
 use Rattle.world_meaning.specs.declared.fault.Fault.{Fault}
-use Rattle.world_meaning.specs.declared.fault.FaultCode.TheVariants.{TooMany}
 use Rattle.world_meaning.specs.declared.place.Place.{Place}
 use Rattle.world_meaning.specs.declared.tale.Tale.{Tale}
 use Rattle.i7_sentences.specs.declared.sentence.Sentence.{Sentence}
@@ -36,14 +35,14 @@ use Rattle.i7_kinds.specs.Values.{Values, values_by}
 use Rattle.i7_kinds.specs.declared.values.Bearer.TheVariants as bearer
 use Rattle.i7_kinds.specs.LongNames.{longer_name}
 use Rattle.i7_kinds.specs.Actions.{actions_said}
-use Rattle.i7_kinds.specs.Tales.{Made, author_entry, entries_of, faults_of, frame_refusal, has_long_name, has_long_text, is_too_long, limit_refusal, made_of, name_too_long, no_room, object_as, object_of, objects_of, or_refused, refusal_of, scope_of, tale_said, text_too_long}
+use Rattle.i7_kinds.specs.Tales.{Made, author_entry, entries_of, faults_of, has_long_name, has_long_text, is_too_long, long_in, long_of, long_said, made_of, name_too_long, no_room, object_as, object_of, objects_of, or_refused, refusal_of, scope_of, tale_said, text_too_long}
 use Rattle.i7_claims.specs.declared.claim.Claim.{Claim}
 use Rattle.i7_kinds.specs.declared.descriptions.Description.{Description as Described}
 use Rattle.i7_kinds.specs.declared.entries.Entry.{Entry}
 use Rattle.i7_kinds.specs.declared.knowns.Known.{Known}
 use Rattle.i7_claims.specs.declared.sorts.Sort.TheVariants as sort
 use Rattle.i7_claims.specs.declared.statements.NumberedSentence.{NumberedSentence}
-use Rattle.i7_kinds.proofs.Bounds.{NoFaults, counted-source, earlier_none, first_none_both, frame_parts, unmapped, unrefused}
+use Rattle.i7_kinds.proofs.Bounds.{NoFaults, counted-source, earlier_none, frame_parts, unmapped}
 use Rattle.i7_kinds.proofs.DescriptionsSaid.{entries_counted}
 use Rattle.i7_kinds.proofs.Fines.{AreFine, base, kind_few, knowns_counted}
 use Rattle.i7_kinds.proofs.Granting.{either_ors_behind}
@@ -157,11 +156,11 @@ pub meant_none : (refusal : Option Fault) (t tale : Tale) → or_refused refusal
 meant_none None t tale h = (refl, cc)
 meant_none (Some fault) t tale h = absurd cc
 
-limit_parts : (claims : List Claim) (descriptions : List Described) (mentions : List NameAt) → limit_refusal claims descriptions mentions ≡ None → (list_all has_short_name mentions ≡ true) × (list_all (λ d. not (has_long_text d)) descriptions ≡ true)
-unfolding limit_refusal
+limit_parts : (claims : List Claim) (descriptions : List Described) (mentions : List NameAt) → long_in claims descriptions mentions ≡ None → (list_all has_short_name mentions ≡ true) × (list_all (λ d. not (has_long_text d)) descriptions ≡ true)
+unfolding long_in
 limit_parts claims descriptions mentions none =
     let others = earlier (text_too_long descriptions) (longer_name 65535 claims) in
-    let names = earlier_none (name_too_long mentions) others (unrefused TooMany (earlier (name_too_long mentions) others) none) in
+    let names = earlier_none (name_too_long mentions) others none in
     let texts = earlier_none (text_too_long descriptions) (longer_name 65535 claims) names.1 in
     (none_found has_long_name mentions (unmapped line_at (find has_long_name mentions) names.0), none_found has_long_text descriptions (unmapped line_of_description (find has_long_text descriptions) texts.0))
 
@@ -276,21 +275,20 @@ abbrev tale_with : Declared → List (Option ℕ) → List Known → Places → 
 tale_with declared parents knowns places values usuals descriptions statements mentions = record { declared = declared; objects = objects_of (made_with declared parents knowns places values usuals descriptions statements) 0 (entries_of mentions) }
 
 objects_held : (claims : List Claim) (keys : List (List ℕ)) (statements : List NumberedSentence) (mentions : List NameAt) → length keys ≡ 13 + length mentions → AreRanged claims
-    → refusal_of (scope_of claims keys) (knowns_of (scope_of claims keys) claims) claims statements mentions ≡ None
+    → refusal_of (scope_of claims keys) (knowns_of (scope_of claims keys) claims) claims statements mentions ≡ None → long_of (scope_of claims keys) claims statements mentions ≡ None
     → IsKept (record { declared = declared_by claims; objects = objects_of (made_of (scope_of claims keys) (knowns_of (scope_of claims keys) claims) claims statements) 0 (entries_of mentions) })
-objects_held claims keys statements mentions counted ranged none =
+objects_held claims keys statements mentions counted ranged none short =
     let s = scope_of claims keys in
     let knowns = knowns_of s claims in
     let descriptions = descriptions_of s.parents knowns statements in
     let faults = faults_of s knowns claims statements in
     let found = first_room s.parents knowns in
-    let t = first_none_both (frame_refusal faults mentions found) (limit_refusal claims descriptions mentions) none in
-    let fine = frame_parts faults mentions found t.0 in
+    let fine = frame_parts faults mentions found none in
     let room = some_room found fine.roomy in
     let w = whole_of claims keys statements mentions room.0 counted fine room.1 in
     let many = earlier_none (kind_too_many claims) (name_too_many claims) fine.too_many in
     let cycles = earlier_none (kind_cycle (kind_names claims) claims) (holder_cycle keys claims) fine.cycle in
-    let limits = limit_parts claims descriptions mentions t.1 in
+    let limits = limit_parts claims descriptions mentions short in
     let sorts = sorts_fine claims many.1 in
     let behind = behind_of claims in
     let kinds = authors_behind claims in
@@ -317,8 +315,8 @@ objects_held claims keys statements mentions counted ranged none =
     subst IsKept (λ i. tale_with (declares i) (sym kinds i) knowns (where_placed i) values usuals descriptions statements mentions) held
 
 -- a story file holds the tale that sentences mean, and no object has more than 32 words by its name
-pub tale_kept : (sentences : List Sentence) (tale : Tale) → AreRangedSentences sentences → tale_said sentences ≡ Ok tale → IsKept tale
-tale_kept sentences tale ranged meant =
+pub tale_kept : (sentences : List Sentence) (tale : Tale) → AreRangedSentences sentences → tale_said sentences ≡ Ok tale → long_said sentences ≡ None → IsKept tale
+tale_kept sentences tale ranged meant short =
     let claims = claims_of sentences in
     let keys = (named_by sentences).keys in
     let s = scope_of claims keys in
@@ -328,5 +326,5 @@ tale_kept sentences tale ranged meant =
     let whole : Tale = record { declared = declared_by claims; objects = objects_of (made_of s knowns claims statements) 0 (entries_of mentions) } in
     let told = acted (actions_said sentences) (or_refused (refusal_of s knowns claims statements mentions) whole) tale meant in
     let t = meant_none (refusal_of s knowns claims statements mentions) whole told.before told.said_is in
-    let held = objects_held claims keys statements mentions (counted-source sentences) (source_ranged sentences ranged) t.0 in
+    let held = objects_held claims keys statements mentions (counted-source sentences) (source_ranged sentences ranged) t.0 short in
     subst IsKept told.tale_is (kept_with (actions_said sentences) told.before (subst IsKept t.1 held))

@@ -1,6 +1,6 @@
 -- A source has one outcome: its tokens are one list, and so its sentences, and so its tale.
 use Rattle.std.proofs.Common.{◌≡◌, ◌≢◌, Bool, ℕ, List, [], ◌∷◌, map, Ok, Err, ap, refl, subst, sym, ◌∙◌}
-use Rattle.std.specs.Prelude.{Result}
+use Rattle.std.specs.Prelude.{Result, Some, None}
 use Rattle.std.specs.List.{AllZip}
 use Rattle.world_meaning.specs.declared.fault.Fault.{Fault}
 use Rattle.world_meaning.specs.declared.fault.FaultCode.TheVariants.{Memory}
@@ -33,7 +33,7 @@ use Rattle.code_table.specs.declared.fault.TableFault.TheVariants.{LongRule, Lon
 use Rattle.story_format.specs.Contents.{Contents}
 use Rattle.story_format.specs.Holding.{AreHeld, NeverHeldAndNot}
 use Rattle.story_file.specs.Compilations.{IsCompiled, IsRefused, IsToldAs, Means, Says, memory, unheld as untold, unmeant as unsaid, unread, unspelled}
-use Rattle.story_file.specs.Meanings.{AreMeant, AreRefused, AreTexts, descriptions_of, known_said, scope_said, unmeant, unresolved}
+use Rattle.story_file.specs.Meanings.{AreMeant, AreRefused, AreTexts, descriptions_of, known_said, scope_said, too_long, unmeant, unresolved}
 use Rattle.story_file.specs.Rules.{lines_told, listings_told, rules_told, scenes_told, synonyms_told}
 
 -- what is known of texts and of what is resolved: each means one thing
@@ -181,13 +181,17 @@ resolved_or_refused law k recurring sentences resolved fault is refused =
     let same : resolution_meant (Understood resolved) ≡ resolution_meant (Refused fault) = law k recurring sentences (Understood resolved) (Refused fault) is refused in
     absurd cc
 
+none_not_some : (line : ℕ) → None ≡ Some line → ⊥
+none_not_some line same = absurd cc
+
 -- sentences that mean a tale aren't refused
 meant_or_refused : IsOneResolution → (sentences : List Sentence) (tale : Tale) (said : Contents) (fault : Fault) → AreMeant sentences tale said → AreRefused sentences fault → ⊥
 meant_or_refused law sentences tale said fault meant (unmeant refused) = ok_not_err tale fault (sym meant.tale_is ∙ refused)
 meant_or_refused law sentences tale said fault meant (unresolved refused) =
     let same = same_ok tale refused.tale (sym meant.tale_is ∙ refused.tale_is) in
-    resolved_or_refused law (known_said sentences tale) tale.declared.scenes sentences meant.resolved fault meant.resolved_is
-    (subst (λ (t : Tale). IsResolution (known_said sentences t) t.declared.scenes sentences (Refused fault)) (sym same) refused.refused)
+    resolved_or_refused law (known_said sentences tale) tale.declared.scenes sentences meant.resolved refused.told meant.resolved_is
+    (subst (λ (t : Tale). IsResolution (known_said sentences t) t.declared.scenes sentences (Refused refused.told)) (sym same) refused.refused)
+meant_or_refused law sentences tale said fault meant (too_long refused) = none_not_some refused.line (sym meant.short ∙ refused.long)
 
 -- where the same sentences stand they are refused so too
 pub refused_so : (sentences others : List Sentence) (fault : Fault) → sentences ≡ others → AreRefused sentences fault → AreRefused others fault

@@ -10,7 +10,7 @@ mod texts;
 mod worked_rows;
 
 pub use compiler::compile;
-pub use i7_kinds::tale_of;
+pub use i7_kinds::{TaleSaid, tale_of};
 pub use laws::{
     actions_are_numbered_alike, meant_tales_are_held, never_compiled_and_refused, one_tale,
 };

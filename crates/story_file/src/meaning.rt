@@ -1,11 +1,11 @@
 //! From sentences to the tale that they mean, and what they say of it.
 ghost use Rattle.std.specs.Prelude.{◌≡◌, ◌⊎◌, Ok as Said, IfErr, IfOk, length};
-ghost use Rattle.i7_kinds.specs.Tales.{tale_said};
+ghost use Rattle.i7_kinds.specs.Tales.{long_said, tale_said};
 ghost use Rattle.i7_resolution.specs.Resolutions.{IsResolution, known_in, scope_in};
 ghost use Rattle.story_format.specs.Contents.{contents_meant};
 ghost use Rattle.world_meaning.specs.Faults.{out_of_memory};
 ghost use Rattle.story_file.specs.Lines.{scene_lines};
-ghost use Rattle.story_file.specs.Meanings.{AreMeant, AreRefused, AreTexts, known_said, scope_said};
+ghost use Rattle.story_file.specs.Meanings.{AreMeant, AreRefused, AreTexts, is_too_many, known_said, scope_said, with_long};
 ghost use Rattle.story_file.specs.Rules.{lines_told, listings_told, rules_told, scenes_told, synonyms_told};
 ghost use Rattle.story_file.specs.Texts.{AreReadable};
 
@@ -14,13 +14,13 @@ use crate::rules::rules_of;
 use crate::texts::texts_of;
 use i7_claims::Claimed;
 use i7_conditions::Scope;
-use i7_kinds::tale_of;
+use i7_kinds::{TaleSaid, tale_of};
 use i7_names::{SourceNames, names_in};
 use i7_resolution::{Resolution, Resolved, resolution_of};
 use i7_sentences::Sentence;
 use std::alloc::{AllocError, Global};
 use story_format::Contents;
-use world_meaning::{Fault, Tale};
+use world_meaning::{Fault, FaultCode, Tale};
 
 /// A tale and what is said of it, and of each scene the line of the first sentence that says on what it begins or ends.
 #[derive(Drop)]
@@ -125,23 +125,61 @@ fn kept_of(
     })
 }
 
+/// Whether a code is that of what is too many or too long.
+fn is_too_many(code: FaultCode) -> bool
+    ensures { result ≡ is_too_many code }
+{
+    match code {
+        FaultCode::TooMany => true,
+        _ => false,
+    }
+}
+
+/// The refusal that stands where rules and commands are refused so, and a name or a description is too long at this line.
+fn with_long(long_line: Option<u32>, fault: Fault) -> Fault
+    ensures { result ≡ with_long long_line fault }
+{
+    match long_line {
+        None => fault,
+        Some(line) => {
+            if is_too_many(fault.code) && line < fault.line {
+                Fault {
+                    code: FaultCode::TooMany,
+                    line,
+                }
+            } else {
+                fault
+            }
+        }
+    }
+}
+
 /// What is kept beside a tale that the sentences mean, or why they are refused.
-fn meant_of(alloc: Global, claimed: &Claimed<'_>, tale: &Tale) -> Result<Kept, Fault>
-    requires { tale_said claimed.now ≡ Said tale.now }
-    ensures meant { IfOk result (λ kept. AreMeant claimed.now tale.now (contents_meant kept.contents)) }
-    ensures lines { IfOk result (λ kept. kept.scene_lines.items ≡ scene_lines (scope_said claimed.now) claimed.now (length tale.now.declared.scenes)) }
+fn meant_of(alloc: Global, claimed: &Claimed<'_>, said: &TaleSaid) -> Result<Kept, Fault>
+    requires tale { tale_said claimed.now ≡ Said said.now.tale }
+    requires line { said.now.long_line ≡ long_said claimed.now }
+    ensures meant { IfOk result (λ kept. AreMeant claimed.now said.now.tale (contents_meant kept.contents)) }
+    ensures lines { IfOk result (λ kept. kept.scene_lines.items ≡ scene_lines (scope_said claimed.now) claimed.now (length said.now.tale.declared.scenes)) }
     ensures refused { IfErr result (λ fault. AreRefused claimed.now fault ⊎ (fault ≡ out_of_memory)) }
 {
     let sentences = claimed.sentences();
-    let Ok((names, told)) = resolution_said(alloc, claimed, tale) else {
+    let Ok((names, told)) = resolution_said(alloc, claimed, &said.tale) else {
         return Err(Fault::OUT_OF_MEMORY);
     };
     match told {
-        Resolution::Refused(fault) => Err(fault),
-        Resolution::Says(resolved) => match kept_of(alloc, &names, tale, sentences, resolved) {
-            Ok(kept) => Ok(kept),
-            Err(_) => Err(Fault::OUT_OF_MEMORY),
-        },
+        Resolution::Refused(fault) => Err(with_long(said.long_line, fault)),
+        Resolution::Says(resolved) => {
+            if let Some(line) = said.long_line {
+                return Err(Fault {
+                    code: FaultCode::TooMany,
+                    line,
+                });
+            }
+            match kept_of(alloc, &names, &said.tale, sentences, resolved) {
+                Ok(kept) => Ok(kept),
+                Err(_) => Err(Fault::OUT_OF_MEMORY),
+            }
+        }
     }
 }
 
@@ -151,10 +189,10 @@ fn meant_by(alloc: Global, claimed: &Claimed<'_>) -> Result<Meant, Fault>
     ensures lines { IfOk result (λ meant. meant.scene_lines.items ≡ scene_lines (scope_said claimed.now) claimed.now (length meant.tale.declared.scenes)) }
     ensures refused { IfErr result (λ fault. AreRefused claimed.now fault ⊎ (fault ≡ out_of_memory)) }
 {
-    let tale = tale_of(alloc, claimed)?;
-    let kept = meant_of(alloc, claimed, &tale)?;
+    let said = tale_of(alloc, claimed)?;
+    let kept = meant_of(alloc, claimed, &said)?;
     Ok(Meant {
-        tale,
+        tale: said.tale,
         contents: kept.contents,
         scene_lines: kept.scene_lines,
     })

@@ -1,6 +1,7 @@
-use Rattle.std.proofs.Common.{◌+◌, sym, ◌∙◌, subst, ap, length, List, ℕ}
+use Rattle.std.proofs.Common.{◌+◌, sym, ◌∙◌, subst, ap, length, List, Option, ℕ}
 use Rattle.i7_kinds.specs.Bounds.{AreWithin}
 use Rattle.i7_kinds.specs.Knowns.{Scope}
+use Rattle.i7_kinds.specs.Tales.{HasLine, judged, long_of}
 use Rattle.i7_claims.specs.Statements.{NameAt}
 use Rattle.i7_claims.specs.Views.{mentions_of, names_of}
 use Rattle.i7_claims.specs.declared.statements.NumberedSentence.{NumberedSentence}
@@ -29,9 +30,19 @@ judged-requires-clause-scope c =
 
 pub returns : goal.returns
 returns c =
-    c.in_ok-said.ensures
-    ∙ said_same c.args.kinds.now c.args.parents.now c.args.claims.now c.args.sentences.now c.new-scope.result c.as_slice.result.now (mentions_of c.mentions-mentions.result.now) (names_of c.args.names.now)
-    c.requires.objects
-    (scope_same c.new-scope.result c.args.kinds.now c.args.parents.now c.args.claims.now c.keys-keys.result.now (names_of c.args.names.now).keys c.in_ok-properties.properties c.as_slice-given.result.now c.in_ok-doors.doors c.in_ok-variables.variables
-    c.new-scope.ensures c.keys-keys.ensures c.in_ok-properties.ensures (c.as_slice-given.ensures.value ∙ c.in_ok-givens.ensures) c.in_ok-doors.ensures c.in_ok-variables.ensures)
-    (c.as_slice.ensures.value ∙ c.in_ok-statements.ensures) c.mentions-mentions.ensures
+    let claims = c.args.claims.now in
+    let named = names_of c.args.names.now in
+    let scope = c.new-scope.result in
+    let scoped = scope_same scope c.args.kinds.now c.args.parents.now claims c.keys-keys.result.now named.keys c.in_ok-properties.properties c.as_slice-given.result.now c.in_ok-doors.doors c.in_ok-variables.variables
+    c.new-scope.ensures c.keys-keys.ensures c.in_ok-properties.ensures (c.as_slice-given.ensures.value ∙ c.in_ok-givens.ensures) c.in_ok-doors.ensures c.in_ok-variables.ensures in
+    let stated = c.as_slice.ensures.value ∙ c.in_ok-statements.ensures in
+    let mentions = mentions_of c.mentions-mentions.result.now in
+    record {
+      tale =
+          c.in_ok-said.ensures.tale
+          ∙ said_same (λ s statements mentioned. judged s claims statements mentioned) c.args.kinds.now c.args.parents.now claims c.args.sentences.now scope c.as_slice.result.now mentions named c.requires.objects scoped stated c.mentions-mentions.ensures;
+      line =
+          subst (λ (line : Option ℕ). HasLine line c.in_ok-said.said)
+          (said_same (λ s statements mentioned. long_of s claims statements mentioned) c.args.kinds.now c.args.parents.now claims c.args.sentences.now scope c.as_slice.result.now mentions named c.requires.objects scoped stated c.mentions-mentions.ensures)
+          c.in_ok-said.ensures.line;
+    }

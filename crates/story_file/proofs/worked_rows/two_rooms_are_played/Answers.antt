@@ -33,11 +33,11 @@ use Rattle.i7_claims.specs.Sorts.{built_in_either_ors, built_in_kinds}
 use Rattle.i7_claims.specs.Standings.{built_in_namings}
 use Rattle.i7_claims.specs.Phrases.{is_phrase, kind_said, phrase_said}
 use Rattle.i7_claims.specs.Wording.{can_begin, cut}
-use Rattle.i7_kinds.specs.Tales.{built_in_truths, entries_of, exits_of, frame_refusal, limit_refusal, object_as}
+use Rattle.i7_kinds.specs.Tales.{built_in_truths, entries_of, exits_of, frame_refusal, long_in, object_as}
 use Rattle.command_grammar.specs.Synonyms.{words_said}
 use Rattle.story_format.specs.TaleScripts.{whole_script}
 use Rattle.story_file.proofs.worked_rows.two_rooms_are_played.Goals as goal
 
 pub returns : goal.returns
-unfolding direction_name opposite_of short_word is_article kind_said phrase_said is_phrase can_begin cut built_in_bases built_in_truths count_of_numbers built_in_either_ors built_in_kinds built_in_namings built_in_parents built_in_properties built_in_standings words_said entries_of exits_of frame_refusal is_under limit_refusal more_words object_as words_for whole_script read answer command first_reading settle candidates splits standard_lines visibility access carrying stages act inner_of may_be_put applies ask consult do_phrase do_body book_of spend is_about said_in game_of encloses is_in_view has_light is_visible_thing is_visible is_touchable commands_of commands_answer opened standard_needs rules_of_looking rules_of_examining rules_of_taking rules_of_dropping rules_of_putting rules_of_inserting rules_of_opening rules_of_closing rules_of_going rules_of_wearing rules_of_inventory rules_of_switching standard_rules depth_of setting_of start_of truth_in ending_of beginning_of pass turn opening object_in is_one those number_in chain is_true_of number_of set_flag set_number
+unfolding direction_name opposite_of short_word is_article kind_said phrase_said is_phrase can_begin cut built_in_bases built_in_truths count_of_numbers built_in_either_ors built_in_kinds built_in_namings built_in_parents built_in_properties built_in_standings words_said entries_of exits_of frame_refusal is_under long_in more_words object_as words_for whole_script read answer command first_reading settle candidates splits standard_lines visibility access carrying stages act inner_of may_be_put applies ask consult do_phrase do_body book_of spend is_about said_in game_of encloses is_in_view has_light is_visible_thing is_visible is_touchable commands_of commands_answer opened standard_needs rules_of_looking rules_of_examining rules_of_taking rules_of_dropping rules_of_putting rules_of_inserting rules_of_opening rules_of_closing rules_of_going rules_of_wearing rules_of_inventory rules_of_switching standard_rules depth_of setting_of start_of truth_in ending_of beginning_of pass turn opening object_in is_one those number_in chain is_true_of number_of set_flag set_number
 returns c = refl
