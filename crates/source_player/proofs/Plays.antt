@@ -28,7 +28,7 @@ use Rattle.source_player.specs.declared.source_run.SourceRunFault.TheVariants.{S
 pub same_play : (source bytes : List ℕ) (compiled : IsCompiled source bytes) (story : Tables) → Spells bytes story → ArePlayedAlike (game_in_play story) (game_meant compiled.tale compiled.said)
 same_play source bytes compiled story spells =
     let same : story ≡ tables_of compiled.tale compiled.said = same_story bytes story compiled.tables spells compiled.spells ∙ compiled.tables_are in
-    let kept = tale_kept compiled.means.sentences compiled.tale (says_ranged source compiled.means.sentences compiled.means.says) compiled.means.meant.tale_is in
+    let kept = tale_kept compiled.means.sentences compiled.tale (says_ranged source compiled.means.sentences compiled.means.says) compiled.means.meant.tale_is compiled.means.meant.short in
     subst (λ (t : Tables). ArePlayedAlike (game_in_play t) (game_meant compiled.tale compiled.said)) (sym same) (played_alike compiled.tale compiled.said kept.held compiled.held)
 
 pub played_source : (source bytes : List ℕ) (echo : Bool) (unread rest held now : Option (List ℕ)) (result : Result Ending SourceRunFault) → IsCompiled source bytes → IfOk result (PlayedStory bytes echo (streams_of unread held) (streams_of rest now)) → IfOk result (PlayedSource source echo (streams_of unread held) (streams_of rest now))
