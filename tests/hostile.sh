@@ -61,7 +61,8 @@ save_rule("C7_rule_inline_ifs", "Every turn:", "\n\tif x is y, rule fails; other
 save_rule("C5_rule_words", "Every turn, say ", "x ", "\"a\".")
 save_rule("C7_rule_substitutions", "Every turn, say \"", "[x]", "\".")
 save_rule("C7_rule_text_ifs", "Every turn, say \"", "[if x is y]a[end if]", "\".")
-save_rule("C12_description_substitutions", "\"", "[x]", "\"")
+save_rule("C7_description_substitutions", "\"", "[x]", "\"")
+save_rule("C12_description", "\"", "a", "\"")
 save_rule("C5_rule_colons", "Every turn", ":", "")
 save_rule("C5_rule_heads", "Every turn", " when x is y (this is the rule", "")
 save_rule("C7_rule_places", "A tidy rule", " in the rule", ", rule fails.")
@@ -290,7 +291,7 @@ for source in *.i7; do
   limit=$space
   case $source in
     compiles_* | *_closed_texts.i7 | *_places_in_a_* | *_scene_changes.i7 | C12_long_*) limit=unlimited ;;
-    *_rule_colons.i7 | *_rule_moves.i7 | *_rule_gifts.i7 | *_rule_verbs.i7 | *_rule_pattern_words.i7 | *_rule_substitutions.i7 | *_rules_many.i7) limit=unlimited ;;
+    *_rule_colons.i7 | *_rule_moves.i7 | *_rule_gifts.i7 | *_rule_verbs.i7 | *_rule_pattern_words.i7 | *_substitutions.i7 | *_rules_many.i7) limit=unlimited ;;
     *_actions_in_places.i7 | *_actions_many.i7 | *_actions_of_*.i7 | *_actions_tried.i7) limit=unlimited ;;
     *_understand_unknown.i7 | *_understand_texts_too_many.i7 | *_understand_long*_text.i7 | *_understand_meaning.i7) limit=unlimited ;;
   esac
