@@ -5,7 +5,7 @@ source that is taken says what a plain reader of stories says: its tables 8 to 1
 its codes are sound, and the program plays it: it begins, and answers `look`, as the reader says. So does that of a sample with
 rules of all heads, of one whose rules are listed, and of two with actions and commands of their own.
 
-Use: tests/bodies.py PROGRAM [NAME..]    (the program of `i7story`; that of `rule_calls` stands beside it)
+Use: tests/bodies.py PROGRAM [NAME..]    (the program of `i7story`; tests/programs.py says where that of `calls` stands)
 NAME: only cases whose name begins so
 
 A case is a source with its name and what it is about. Of a body `text` is what it says, `result` how it leaves off, `ends` the
@@ -19,11 +19,12 @@ import sys
 import tempfile
 
 from plain_stories import NONE16, opening_and_look, rules_told, tables
+from programs import calls_of
 from row_files import report, rows_of
 from rule_sources import tables_of
 
 program = pathlib.Path(sys.argv[1]).resolve()
-calls = program.parents[2] / "rule_calls/out/rule_calls"
+calls = calls_of("rules")
 wanted = tuple(sys.argv[2:]) or ("",)
 folder = pathlib.Path(__file__).resolve().parent / "bodies"
 samples = [folder.parents[1] / "stories" / name for name in ["night-watch.i7", "museum.i7", "weigh-house.i7", "apiary.i7"]]
@@ -32,7 +33,7 @@ RESULTS = {"done": "Done", "no decision": "NoDecision", "success": "Success", "f
 
 
 def answer_of(case):
-    """What `rule_calls` is to print of a case."""
+    """What `calls` is to print of a case."""
     refusal = case.get("refusal")
     if refusal:
         return f"refused\t{refusal['line']}: {refusal['code']} {refusal['name']}"
@@ -43,22 +44,22 @@ def answer_of(case):
 
 
 def readable(line):
-    """A line of `rule_calls` with its bytes as text."""
+    """A line of `calls` with its bytes as text."""
     return re.sub(r"\[[\d, ]*\]", lambda found: repr(bytes(json.loads(found[0])).decode("latin-1")), line)
 
 
 def told(sources):
-    """What `rule_calls` prints of sources, a line for each."""
+    """What `calls` prints of sources, a line for each."""
     assert not any("\x1e" in source for source in sources)
     with tempfile.NamedTemporaryFile("w", newline="") as scratch:
         scratch.write("".join(source + "\x1e" for source in sources))
         scratch.flush()
-        done = subprocess.run([calls, "bodies", scratch.name], capture_output=True, check=True, timeout=300)
+        done = subprocess.run([*calls, "bodies", scratch.name], capture_output=True, check=True, timeout=300)
     return done.stdout.decode().split("\n")[:-1]
 
 
 def wanted_cases():
-    """The sources, each with its name and what `rule_calls` is to print of it."""
+    """The sources, each with its name and what `calls` is to print of it."""
     for case in json.loads((folder / "phrases.json").read_text()):
         yield case["name"], case["source"], answer_of(case)
     for place, (source, answer) in rows_of(folder / "rules.rows"):

@@ -1,7 +1,7 @@
 #!/usr/bin/env python3
 """Compares what codes are and do with what is told by hand, by the rows of tests/codes/*.rows.
 
-Use: tests/code_rows.py PROGRAM [SORT]    (the program of `i7story`; those of `rule_calls` and `code_calls` stand beside it)
+Use: tests/code_rows.py PROGRAM [SORT]    (the program of `i7story`; tests/programs.py says where that of `calls` stands)
 
 A row is a line of fields, a tab between them. A file is a sort, and what the fields are stands in its first lines. `{9*lit }` is
 nine times `lit `, `{9>if so:}` are nine lines, each a tab deeper than the one before, and a line that begins with `#` says what
@@ -15,8 +15,8 @@ import sys
 import tempfile
 
 from plain_codes import BODY, DESCRIBING, TEST, packed_counts
+from programs import calls_of
 
-crates = pathlib.Path(sys.argv[1]).resolve().parents[2]
 wanted_sort = sys.argv[2] if len(sys.argv) > 2 else ""
 folder = pathlib.Path(__file__).resolve().parent / "codes"
 MARK = re.compile(r"\{(\d+)([*>])([^{}]*)\}")
@@ -27,17 +27,17 @@ SIZES = {
 }
 
 
-def told(name, *words, records):
-    """What a program of this name prints of records."""
+def told(sort, *words, records):
+    """What calls of a sort print of records."""
     with tempfile.NamedTemporaryFile() as file:
         file.write(records)
         file.flush()
-        done = subprocess.run([crates / name / "out" / name, *words, file.name], capture_output=True, check=True, timeout=300)
+        done = subprocess.run([*calls_of(sort), *words, file.name], capture_output=True, check=True, timeout=300)
     return done.stdout.decode()
 
 
 def lines_told(form, records):
-    return told("rule_calls", form, records=records.encode()).split("\n")[:-1]
+    return told("rules", form, records=records.encode()).split("\n")[:-1]
 
 
 def repeated(mark):
@@ -64,7 +64,7 @@ def spelling(rows):
 
 
 def packed(code):
-    """A code as `code_calls` reads it."""
+    """A code as calls of codes read it."""
     role, digits = code.split(":")
     use = {"b": BODY, "d": DESCRIBING}.get(role, TEST)
     said = bytes.fromhex(digits)
@@ -73,13 +73,13 @@ def packed(code):
 
 def soundness(rows):
     """Whether codes are sound."""
-    digits = told("code_calls", records=b"".join(packed(code) for code, _ in rows))
+    digits = told("codes", records=b"".join(packed(code) for code, _ in rows))
     for (_, wanted), digit in zip(rows, digits, strict=True):
         yield {"1": "sound", "0": "unsound"}[digit], wanted
 
 
 def run_of(how, codes, facts):
-    """A run as `rule_calls` reads it."""
+    """A run as calls of rules read it."""
     asked = ";".join(fact.split(" = ")[0] for fact in facts)
     return f"{how} {codes.replace(', ', '|').replace(' ', '').replace('|', ' ')}\t{asked}"
 

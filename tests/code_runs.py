@@ -2,9 +2,8 @@
 """Runs 10,000 bodies, made at random or from sound ones by a change, in the world of a small story, with tests and a description
 made so too. What is run is what a plain checker finds sound; each run comes to an end or breaks off (N3, N4).
 
-Use: tests/code_runs.py PROGRAM    (the program of `i7story`; that of `rule_calls` stands beside it)"""
+Use: tests/code_runs.py PROGRAM    (the program of `i7story`; tests/programs.py says where that of `calls` stands)"""
 import collections
-import pathlib
 import random
 import struct
 import subprocess
@@ -12,8 +11,9 @@ import sys
 import tempfile
 
 from plain_codes import ANSWER, BEGIN, BODY, DESCRIBING, JUMP, NEXT, TEST, Maker, changed, cut, inside, is_sound, loops_of
+from programs import calls_of
 
-program = pathlib.Path(sys.argv[1]).resolve().parents[2] / "rule_calls/out/rule_calls"
+calls = calls_of("rules")
 HOW_MANY = 10_000
 DEEPEST = 9
 DONE = 0x37
@@ -107,7 +107,7 @@ with tempfile.NamedTemporaryFile("w", newline="") as file:
     lines = [line_of(chance, body) for body in bodies]
     file.write("\x1f".join([SOURCE, "\n".join(STRINGS), "\n".join(lines)]))
     file.flush()
-    done = subprocess.run([program, "runs", file.name], capture_output=True, check=True, timeout=600)
+    done = subprocess.run([*calls, "runs", file.name], capture_output=True, check=True, timeout=600)
 answers = done.stdout.decode().splitlines()
 assert len(answers) == len(bodies), f"code_runs: {len(answers)} answers for {len(bodies)} bodies"
 failed = [(answer, body) for answer, body in zip(answers, bodies) if not is_expected(answer, body)]

@@ -2,15 +2,15 @@
 """Counts the machine's instructions that a body of a hundred phrases takes in a story of five hundred rooms, by callgrind, for each
 byte of its code that is done: the body is done once and a hundred and one times, and what else the program does is left out.
 
-Use: tests/code_speed.py PROGRAM    (the program of `i7story`; that of `rule_calls` stands beside it; needs valgrind; no part of
-the gate)"""
-import pathlib
+Use: tests/code_speed.py PROGRAM    (the program of `i7story`; tests/programs.py says where that of `calls` stands; needs
+valgrind; no part of the gate)"""
 import re
 import subprocess
-import sys
 import tempfile
 
-program = pathlib.Path(sys.argv[1]).resolve().parents[2] / "rule_calls/out/rule_calls"
+from programs import calls_of
+
+calls = calls_of("rules")
 TIMES = 100
 ROOMS = [f"Room {n} is a room." for n in range(1, 501)]
 THINGS = ["The ball is a thing in Room 1.", "The box is an open container in Room 1.", "The score is a number that varies.", "A thing has a number called mass."]
@@ -39,12 +39,12 @@ def asked(*words, told):
 
 def codes_of(source, rule):
     """The codes of a rule as they are told."""
-    return asked(program, "codes", told=f"{source}\n\n{rule}\x1e").stdout.strip()
+    return asked(*calls, "codes", told=f"{source}\n\n{rule}\x1e").stdout.strip()
 
 
 def taken(source, codes, times):
     """The instructions of so many runs, and what they come to."""
-    valgrind = ["valgrind", "--tool=callgrind", "--callgrind-out-file=/dev/null", program, "runs"]
+    valgrind = ["valgrind", "--tool=callgrind", "--callgrind-out-file=/dev/null", *calls, "runs"]
     done = asked(*valgrind, told=f"{source}\n\x1fstring\n\x1f{times} {codes}")
     return int(re.search(r"Collected : (\d+)", done.stderr).group(1)), done.stdout.strip()
 

@@ -2,8 +2,7 @@
 """Asks of 100,000 codes, made at random or from sound ones by a change, whether they are sound, and compares with a plain
 checker that goes by the profile's words: where loops lie, where jumps lead, what stands on the operands.
 
-Use: tests/codes.py PROGRAM    (the program of `i7story`; that of `code_calls` stands beside it)"""
-import pathlib
+Use: tests/codes.py PROGRAM    (the program of `i7story`; tests/programs.py says where that of `calls` stands)"""
 import random
 import struct
 import subprocess
@@ -11,8 +10,9 @@ import sys
 import tempfile
 
 from plain_codes import BODY, COUNTS, JUMP, ROWS, TEST, Maker, changed, is_sound, packed_counts
+from programs import calls_of
 
-program = pathlib.Path(sys.argv[1]).resolve().parents[2] / "code_calls/out/code_calls"
+calls = calls_of("codes")
 HOW_MANY = 100_000
 
 
@@ -46,7 +46,7 @@ codes = [drawn(chance) for _ in range(HOW_MANY)] + [long(chance) for _ in range(
 with tempfile.NamedTemporaryFile() as file:
     file.write(b"".join(packed(*one) for one in codes))
     file.flush()
-    told = subprocess.run([program, file.name], capture_output=True, check=True).stdout.decode()
+    told = subprocess.run([*calls, file.name], capture_output=True, check=True).stdout.decode()
 assert len(told) == len(codes), f"codes: {len(told)} answers for {len(codes)} codes"
 failed = 0
 for digit, one in zip(told, codes):

@@ -4,9 +4,9 @@
 looking tell it; of a story with other rules there, that it plays. Of many more, among them
 each cut and each flipped bit of a story with rules, books and scenes, of one with kinds of value and of the stories of some sources
 of tests/bodies, the
-program of `story_calls` must say it, and tell the same to `look`.
+program of `calls` must say it, and tell the same to `look`.
 
-Use: tests/damaged_stories.py PROGRAM    (the program of `i7story`; that of `story_calls` stands beside it)"""
+Use: tests/damaged_stories.py PROGRAM    (the program of `i7story`; tests/programs.py says where that of `calls` stands)"""
 import json
 import pathlib
 import random
@@ -15,10 +15,11 @@ import sys
 import tempfile
 
 from plain_stories import SOMETHING, Fault, opening_and_look
+from programs import calls_of
 from written_stories import crowded, furnished, ruled, unnumbered, valued, written
 
 program = pathlib.Path(sys.argv[1]).resolve()
-calls = program.parents[2] / "story_calls/out/story_calls"
+calls = calls_of("stories")
 folder = pathlib.Path(__file__).resolve().parent
 source = folder / "rows/two_rooms/source.i7"
 # Every so many of the sources of tests/bodies, and one whose rule is about an object, a kind and a scene.
@@ -78,7 +79,7 @@ GRAMMARS = {
 
 
 def damaged_more(story, others):
-    """Stories for `story_calls`."""
+    """Stories for `calls`."""
     for name, lines in GRAMMARS.items():
         yield f"a grammar of {name}", written(dict(unnumbered(story), grammar=lines))
     furniture, rules = furnished(story), ruled(story)
@@ -137,10 +138,10 @@ def by_program(path, stories):
 
 
 def by_calls(path, stories):
-    """Each story with what `story_calls` says of it, and what is wanted."""
+    """Each story with what `calls` says of it, and what is wanted."""
     stories = list(stories)
     path.write_text("".join(data.hex() + "\n" for _, data in stories))
-    run = subprocess.run([calls, path], capture_output=True, check=True, timeout=300)
+    run = subprocess.run([*calls, path], capture_output=True, check=True, timeout=300)
     for (name, data), told in zip(stories, run.stdout.decode().split("\n")[:-1], strict=True):
         wanted = judged(data)
         if isinstance(wanted, str):

@@ -2,15 +2,14 @@
 """Resolves rules of the greatest length, whose names are all known, one after the other: each comes to what is told here, within a
 second.
 
-Use: tests/long_rules.py PROGRAM    (the program of `i7story`; that of `rule_calls` stands beside it)"""
-import pathlib
+Use: tests/long_rules.py PROGRAM    (the program of `i7story`; tests/programs.py says where that of `calls` stands)"""
 import subprocess
-import sys
 import tempfile
 
+from programs import calls_of
 from row_files import report
 
-program = pathlib.Path(sys.argv[1]).resolve().parents[2] / "rule_calls/out/rule_calls"
+calls = calls_of("rules")
 LONGEST = 262144
 PLAIN = "The Hall is a room. The box is an open container in the Hall. The score is a number that varies."
 # More than eight `from`s within one another, or more than 65,535 bytes of code.
@@ -45,7 +44,7 @@ def answer(rule):
         file.write(f"{PLAIN}\n\n{rule}\x1e")
         file.flush()
         try:
-            done = subprocess.run([program, "bodies", file.name], capture_output=True, text=True, check=True, timeout=1)
+            done = subprocess.run([*calls, "bodies", file.name], capture_output=True, text=True, check=True, timeout=1)
         except subprocess.TimeoutExpired:
             return "more than a second"
     return done.stdout.removesuffix("\n")

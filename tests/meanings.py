@@ -1,7 +1,7 @@
 #!/usr/bin/env python3
 """Compares what words mean with what is told by hand, by the rows of tests/meanings/*.rows.
 
-Use: tests/meanings.py PROGRAM [SORT]    (the program of `i7story`; that of `meaning_calls` stands beside it)
+Use: tests/meanings.py PROGRAM [SORT]    (the program of `i7story`; tests/programs.py says where that of `calls` stands)
 
 A row is a line: the words, a tab, what they mean as it is printed, and perhaps a tab and what they are read with beside what
 tests/meanings/scene names, or in its place behind `alone`: `repeat gem;variable 7 depth`. A file is a sort, and what is
@@ -13,7 +13,9 @@ import subprocess
 import sys
 import tempfile
 
-program = pathlib.Path(sys.argv[1]).resolve().parents[2] / "meaning_calls/out/meaning_calls"
+from programs import calls_of
+
+calls = calls_of("meanings")
 wanted_sort = sys.argv[2] if len(sys.argv) > 2 else ""
 folder = pathlib.Path(__file__).resolve().parent / "meanings"
 REPEATED = re.compile(r"\{(\d+)\*((?:[^{}]|\{[^{}]*\})*)\}")
@@ -58,7 +60,7 @@ def all_told(rows):
     with tempfile.NamedTemporaryFile("w") as file:
         file.write("".join(row + "\n" for row in rows))
         file.flush()
-        done = subprocess.run([program, file.name], capture_output=True, check=True, timeout=300)
+        done = subprocess.run([*calls, file.name], capture_output=True, check=True, timeout=300)
     return done.stdout.decode().split("\n")[:-1]
 
 

@@ -29,7 +29,7 @@ COUNTS = ["objects", "kinds", "flags", "numbers", "variables", "scenes", "string
 
 
 def packed_counts(sizes):
-    """The counts as `code_calls` reads them."""
+    """The counts as calls of codes read them."""
     return b"".join(struct.pack(">H", sizes[name]) for name in COUNTS) + bytes([len(sizes["values"]), *sizes["values"]])
 
 

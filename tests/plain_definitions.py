@@ -1,5 +1,5 @@
 """A plain reader of crates/play_meaning/specs/StandardRules.antt: works out its definitions, and tells the bodies of the rules as
-the program of `rule_calls` prints trees. What they take from other files stands here by the tables of docs/story-format.md."""
+the program of `calls` prints trees. What they take from other files stands here by the tables of docs/story-format.md."""
 import pathlib
 import re
 

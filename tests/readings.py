@@ -2,16 +2,17 @@
 """Compares what sources and texts are read as with what is told by hand, by the rows of tests/readings/*.rows: what is read, and what
 it is read as (tests/row_files.py says how rows are written).
 
-Use: tests/readings.py PROGRAM [FILE]    FILE: `tokens`, `rules` .. (the program of `i7story`; that of `reading_calls` stands
-beside it)"""
+Use: tests/readings.py PROGRAM [FILE]    FILE: `tokens`, `rules` .. (the program of `i7story`;
+tests/programs.py says where that of `calls` stands)"""
 import pathlib
 import subprocess
 import sys
 import tempfile
 
+from programs import calls_of
 from row_files import report, rows_of
 
-program = pathlib.Path(sys.argv[1]).resolve().parents[2] / "reading_calls/out/reading_calls"
+calls = calls_of("readings")
 wanted_file = sys.argv[2] if len(sys.argv) > 2 else ""
 folder = pathlib.Path(__file__).resolve().parent / "readings"
 # Of each file the form of the program that is asked, where the words of a row stand in the source, and what stands around what
@@ -37,7 +38,7 @@ def all_told(form, sources):
     with tempfile.NamedTemporaryFile("w") as file:
         file.write("".join(source.hex() + "\n" for source in sources))
         file.flush()
-        done = subprocess.run([program, form, file.name], capture_output=True, check=True, timeout=300)
+        done = subprocess.run([*calls, form, file.name], capture_output=True, check=True, timeout=300)
     return [bytes.fromhex(line) for line in done.stdout.decode().split("\n")[:-1]]
 
 

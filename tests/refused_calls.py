@@ -5,15 +5,17 @@ the answers of the plain run but for one call, which answers that it was refused
 those of the plain run, where a table that grows did with less. A call that changes a world is made on a copy, and answers that it
 was refused only where the world behind it is as it was; `revert` makes a change of each sort and turns the copy back.
 
-Use: tests/refused_calls.py PROGRAM    (the program of `i7story`; that of `world_calls` stands beside it)"""
+Use: tests/refused_calls.py PROGRAM    (the program of `i7story`; tests/programs.py says where that of `calls` stands)"""
 import os
 import pathlib
 import subprocess
 import sys
 import tempfile
 
+from programs import calls_of
+
 here = pathlib.Path(__file__).resolve().parent
-program = pathlib.Path(sys.argv[1]).resolve().parents[2] / "world_calls/out/world_calls"
+calls = calls_of("worlds")
 # Each call twice: the second time has all memory, so that what a refused call leaves is seen.
 CHANGES = ["set_flag", "set_number", "set_variable", "put", "take_out", "end_story", "next_turn"]
 MAKING = ["tree", "start", "copy", *CHANGES, "revert"]
@@ -32,7 +34,7 @@ def run(shim, refused):
     os.ftruncate(COUNT, 0)
     os.lseek(COUNT, 0, os.SEEK_SET)
     done = subprocess.run(
-        [program, "-", *CALLS],
+        [*calls, "-", *CALLS],
         env={**os.environ, "LD_PRELOAD": shim, "REFUSE": str(refused)},
         capture_output=True,
         pass_fds=[COUNT],

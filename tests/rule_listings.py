@@ -3,15 +3,15 @@
 has sentences that are put behind the source NAME.i7, the name of a rulebook, and its rules, each with what puts it at its place
 (tests/row_files.py says how rows are written). Of a source that is refused the refusal stands in place of the name.
 
-Use: tests/rule_listings.py PROGRAM    (the program of `i7story`; that of `rule_listing` stands beside it)"""
+Use: tests/rule_listings.py PROGRAM    (the program of `i7story`; tests/programs.py says where that of `rule_listing` stands)"""
 import pathlib
 import subprocess
-import sys
 import tempfile
 
+from programs import program_of
 from row_files import report, rows_of
 
-program = pathlib.Path(sys.argv[1]).resolve().parents[2] / "rule_listing/out/rule_listing"
+program = program_of("rule_listing")
 folder = pathlib.Path(__file__).resolve().parent / "rule_listings"
 
 
@@ -20,7 +20,9 @@ def printed(source):
     with tempfile.NamedTemporaryFile() as file:
         file.write(source)
         file.flush()
-        done = subprocess.run([program, file.name], capture_output=True, check=True, timeout=60)
+        done = subprocess.run([program, file.name], capture_output=True, timeout=60)
+    if done.returncode:
+        return {done.stderr.removeprefix(f"{file.name}:".encode()).strip(): []}
     books = {}
     for line in done.stdout.splitlines():
         if line.startswith(b"    "):

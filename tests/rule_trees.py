@@ -1,16 +1,16 @@
 #!/usr/bin/env python3
 """Compares what bodies of tests/bodies/phrases.json mean with trees written by hand, for rules are resolved before they are emitted.
 
-Use: tests/rule_trees.py PROGRAM    (the program of `i7story`; that of `rule_calls` stands beside it)
+Use: tests/rule_trees.py PROGRAM    (the program of `i7story`; tests/programs.py says where that of `calls` stands)
 
 Objects go by their numbers: the player is 0, north to outside are 1 to 12, and the source's own follow by first mention;
 variables, properties and scenes go by theirs."""
 import json
 import pathlib
 import subprocess
-import sys
 import tempfile
 
+from programs import calls_of
 from row_files import report
 
 folder = pathlib.Path(__file__).resolve().parent / "bodies"
@@ -234,19 +234,18 @@ TREES = {
 }
 
 
-def told(program, sources):
+def told(sources):
     """The trees of the one rule of each source, a line for each."""
     with tempfile.NamedTemporaryFile("w", newline="") as scratch:
         scratch.write("".join(source + "\x1e" for source in sources))
         scratch.flush()
-        done = subprocess.run([program, "trees", scratch.name], capture_output=True, check=True, timeout=60)
+        done = subprocess.run([*calls_of("rules"), "trees", scratch.name], capture_output=True, check=True, timeout=60)
     return done.stdout.decode().split("\n")[:-1]
 
 
 def main():
-    calls = pathlib.Path(sys.argv[1]).resolve().parents[2] / "rule_calls/out/rule_calls"
     sources = {case["name"]: case["source"] for case in json.loads((folder / "phrases.json").read_text())}
-    lines = told(calls, [sources[name] for name in TREES])
+    lines = told([sources[name] for name in TREES])
     report("rule trees", ((name, line, row(TREES[name])) for name, line in zip(TREES, lines, strict=True)))
 
 

@@ -3,7 +3,7 @@
 book and about the action of the standard rule of its number, and about nothing more; and each book lists the author's behind the
 standard ones. What each body means is what play_meaning/specs/StandardRules.antt says, read by tests/plain_definitions.py.
 
-Use: tests/standard_sentences.py PROGRAM    (the program of `i7story`; that of `rule_calls` stands beside it)"""
+Use: tests/standard_sentences.py PROGRAM    (the program of `i7story`; tests/programs.py says where that of `calls` stands)"""
 import pathlib
 import subprocess
 import sys
@@ -98,8 +98,7 @@ def answers():
     for number, book in enumerate(t["books"]):
         listed = [place for place, rule in enumerate(2 * standard_rules()) if rule[0] == number]
         yield f"book {number}", str(book), str(listed)
-    calls = program.parents[2] / "rule_calls/out/rule_calls"
-    bodies = told(calls, [HALL + sentence for sentence in SENTENCES])
+    bodies = told([HALL + sentence for sentence in SENTENCES])
     for number, (body, wanted) in enumerate(zip(bodies, standard_bodies(), strict=True), 1):
         yield f"body {number}", body, wanted
 

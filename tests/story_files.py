@@ -6,8 +6,8 @@ those of rules.rows, by the readers of a loaded story too; the order of rules th
 that of listings.rows; what sentences declare that an action asks for is what actions.rows tells, and what they say that commands and
 words mean what grammar.rows tells.
 
-Use: tests/story_files.py PROGRAM    (the program of `i7story`; that of `rule_calls` stands beside it; tests/row_files.py says how
-rows are written)"""
+Use: tests/story_files.py PROGRAM    (the program of `i7story`; tests/programs.py says where that of `calls` stands,
+tests/row_files.py how rows are written)"""
 import pathlib
 import re
 import subprocess
@@ -17,11 +17,12 @@ import tempfile
 from plain_stories import (
     A_DIRECTION, ACTIONS, DIRECTIONS, NONE8, NONE16, PLAYER_WORDS, SOMETHING, STANDARD_LINES, STANDARD_RULES, Fault, has, name_words,
     opening_and_look, rules_told, tables)
+from programs import calls_of
 from row_files import digits_of, report, rows_of
 from rule_sources import STANDARD_NAMES, own_words, tables_of
 
 program = pathlib.Path(sys.argv[1]).resolve()
-calls = program.parents[2] / "rule_calls/out/rule_calls"
+calls = calls_of("rules")
 folder = pathlib.Path(__file__).resolve().parent / "story_files"
 CHANGE = re.compile(r"(\d+|end)([=+-])([\d,]+)")
 # what a rule is about that asks for no action, noun, second noun, place or scene
@@ -225,7 +226,7 @@ def rules_read(scratch, sources):
     """What the readers of a loaded story say of the rules of sources."""
     path = scratch / "sources"
     path.write_bytes(b"".join(source + b"\x1e" for source in sources))
-    done = subprocess.run([calls, "rules", path], capture_output=True, check=True, timeout=60)
+    done = subprocess.run([*calls, "rules", path], capture_output=True, check=True, timeout=60)
     return [line or "-" for line in done.stdout.decode().split("\n")[:-1]]
 
 

@@ -3,8 +3,8 @@
 stories of several sizes, of a door, and of a thing deep in others; the list of all that is visible; a copy. What a call that does
 nothing takes is left out.
 
-Use: tests/world_speed.py PROGRAM    (the program of `i7story`; that of `world_calls` stands beside it; needs valgrind; no part of
-the gate)"""
+Use: tests/world_speed.py PROGRAM    (the program of `i7story`; tests/programs.py says where that of `calls` stands; needs
+valgrind; no part of the gate)"""
 import os
 import pathlib
 import re
@@ -12,8 +12,10 @@ import subprocess
 import sys
 import tempfile
 
+from programs import calls_of
+
 i7story = pathlib.Path(sys.argv[1]).resolve()
-program = i7story.parents[2] / "world_calls/out/world_calls"
+calls = calls_of("worlds")
 TIMES = 100
 
 
@@ -33,7 +35,7 @@ def deep(steps):
 
 def instructions(story, word):
     done = subprocess.run(
-        ["valgrind", "--tool=callgrind", "--callgrind-out-file=/dev/null", program, story, *[word] * TIMES],
+        ["valgrind", "--tool=callgrind", "--callgrind-out-file=/dev/null", *calls, story, *[word] * TIMES],
         capture_output=True,
     )
     assert done.returncode == 0, done.stderr.decode()

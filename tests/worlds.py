@@ -1,11 +1,11 @@
 #!/usr/bin/env python3
 """Compares what the calls of a story's world answer with what is told by hand, by the rows of tests/worlds/*.rows.
 
-Use: tests/worlds.py PROGRAM [FILE]    (the program of `i7story`; that of `world_calls` stands beside it)
+Use: tests/worlds.py PROGRAM [FILE]    (the program of `i7story`; tests/programs.py says where that of `calls` stands)
 
 A row is a line: calls, `; ` in between, made one after the other on a world as the story begins, each with what it answers behind
 ` = `; one behind which nothing stands is to be made. The calls have the names of the methods of `World`, `Ground` and
-`GroundMut`, and the words of `crates/world_calls/src/names.rt`; that crate's `row.rt` says what `make`, `copy`, `other`,
+`GroundMut`, and the words of `crates/calls/src/worlds/names.rt`; `row.rt` beside it says what `make`, `copy`, `other`,
 `agree`, `mark` and `revert` are. The story of FILE is that of the source of its name beside it, or that of its name in
 tests/story_files, or the furnished one, and a line that begins with `#` says what the rows below it are about."""
 import pathlib
@@ -13,12 +13,12 @@ import subprocess
 import sys
 import tempfile
 
+from programs import calls_of
 from row_files import digits_of
 
 compiler = pathlib.Path(sys.argv[1]).resolve()
-crates = compiler.parents[2]
 wanted_file = sys.argv[2] if len(sys.argv) > 2 else ""
-program = crates / "world_calls/out/world_calls"
+calls = calls_of("worlds")
 folder = pathlib.Path(__file__).resolve().parent / "worlds"
 
 
@@ -35,7 +35,7 @@ def call_in(part):
 
 
 def story_of(path, scratch):
-    """The story of a file, as `world_calls` is told it: that of a source, the bytes that are written there by hand, or the furnished
+    """The story of a file, as `calls` is told it: that of a source, the bytes that are written there by hand, or the furnished
     one."""
     written, story = folder.parent / f"story_files/{path.stem}.hex", scratch / "story"
     if path.with_suffix(".i7").exists():
@@ -52,7 +52,7 @@ def all_told(path, rows):
     with tempfile.TemporaryDirectory() as name:
         scratch = pathlib.Path(name)
         (scratch / "rows").write_text("".join(row + "\n" for row in rows))
-        words = [program, story_of(path, scratch), "--rows", scratch / "rows"]
+        words = [*calls, story_of(path, scratch), "--rows", scratch / "rows"]
         done = subprocess.run(words, capture_output=True, check=True, timeout=300)
     return done.stdout.decode().split("\n")[:-1]
 

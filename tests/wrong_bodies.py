@@ -1,53 +1,244 @@
 #!/usr/bin/env python3
-"""Tries the wrong bodies that the gate leaves out, since each costs it half a minute and more: the prover must refuse each.
+"""Tries the wrong bodies: of each the prover must refuse the function that it names.
 
-Use: tests/wrong_bodies.py [CRATE..]     those of these crates, or of all
-     tests/wrong_bodies.py --stand       only sees that each can still be applied, which the gate does too
+Use: tests/wrong_bodies.py [CRATE | CRATE/NAME ..]   those of all crates, of some, or some alone
+     tests/wrong_bodies.py --stand                   only sees that each can still be applied
 
-The edits of tests/wrong_bodies/CRATE are written as those of crates/CRATE/must-fail are. The first of a crate takes as long
-as its proof, a quarter of an hour for the largest, and each further one half a minute."""
-import contextlib
+A wrong body is a file tests/wrong_bodies/CRATE/NAME.edit: a line `proof: ` with the function whose proof must fail, as a check prints
+it but for the crate; then `file: `, and pairs of `old: `, which stands once in that file, and `new: `.
+
+They are tried over the libraries that `rt ci` or `./i7story prove` left, a crate at a time on each processor. In a copy of the crate
+the proof of each function that no edit names is a hole, so that a call of it is taken by its contract, and little but the named
+functions is proved. These must be proved as they stand, and none with its edit. Edits inside different functions are tried in one
+check, since a proof reads no other function's body."""
+import collections
+import concurrent.futures
+import os
 import pathlib
+import re
 import shutil
-import subprocess
 import sys
+import tempfile
 
-top = pathlib.Path(__file__).resolve().parent.parent
-kept = top / "tests" / "wrong_bodies"
-of_crates = {folder.name: sorted(folder.glob("*.edit")) for folder in sorted(kept.iterdir())}
+here = pathlib.Path(__file__).resolve().parent
+sys.path.insert(0, str(here.parent / "tools"))
+import kit
 
 
-def stands(crate, edit):
-    """Whether each line that the edit takes out stands once in the file that it names."""
-    lines = edit.read_text().splitlines()
-    files = [line.removeprefix("file: ") for line in lines if line.startswith("file: ")]
-    olds = [line.removeprefix("old: ") for line in lines if line.startswith("old: ")]
-    news = [line for line in lines if line.startswith("new:")]
-    text = (top / "crates" / crate / files[0]).read_text() if len(files) == 1 else ""
-    well = bool(olds) and len(olds) == len(news) and all(text.count(old) == 1 for old in olds)
-    if not well:
-        print(f"{edit.relative_to(top)} can't be applied")
-    return well
+class Edit:
+    """A wrong body as its file tells it."""
+
+    def __init__(self, path):
+        self.crate, self.name = path.parent.name, f"{path.parent.name}/{path.stem}"
+        said = collections.defaultdict(list)
+        for line in path.read_text().splitlines():
+            key, _, value = line.partition(":")
+            said[key].append(value.removeprefix(" "))
+        self.proof, self.file = "".join(said["proof"]), "".join(said["file"])
+        self.pairs = list(zip(said["old"], said["new"]))
+        self.is_whole = set(said) == {"proof", "file", "old", "new"} and len(said["old"]) == len(said["new"])
+
+    def text(self):
+        file = kit.top / "crates" / self.crate / self.file
+        return file.read_text() if file.is_file() else ""
+
+    def applied(self, text):
+        """The text with the edit; None where a line that it takes out doesn't stand there once."""
+        for old, new in self.pairs:
+            if text.count(old) != 1:
+                return None
+            text = text.replace(old, new)
+        return text
+
+    def stands(self):
+        return self.is_whole and self.applied(self.text()) is not None
+
+    def is_inside(self):
+        """Whether all that it changes lies in the body of the function whose proof must fail."""
+        return all(function_around(self.text(), old) == self.proof.rpartition("::")[2] for old, _ in self.pairs)
+
+
+def function_around(text, piece):
+    """The name of the function whose body the piece lies in, as rt fmt lays functions out; None where it lies in none."""
+    at = text.index(piece)
+    for head in reversed([*re.finditer(r"(?m)^( *)(?:pub(?:\([^)]*\))? )?(?:const )?fn (\w+)", text[:at])]):
+        begins = re.compile(rf"(?m)^{head[1]}\{{|\{{$").search(text, head.end())
+        ends = re.compile(rf"(?m)^{head[1]}\}}$").search(text, head.end())
+        if begins and ends and begins.start() < at < ends.start():
+            return head[2]
+    return None
+
+
+def batches(edits):
+    """The edits in lists, of which each is tried in one check: none but one names a function, and what lies elsewhere stands alone."""
+    made = []
+    for edit in edits:
+        fits = [it for it in made if edit.is_inside() and it[0].is_inside() and edit.proof not in {other.proof for other in it}]
+        if fits:
+            fits[0].append(edit)
+        else:
+            made.append([edit])
+    return made
+
+
+def hole(room, crate, function):
+    """Makes the proof of a function of the copied crate a hole."""
+    path = function.split("::")
+    at = room.joinpath("proofs", *path)
+    at.mkdir(parents=True, exist_ok=True)
+    for name in ("Invariants.antt", "Answers.antt"):
+        (at / name).unlink(missing_ok=True)
+    (at / "Proof.antt").write_text(
+        f"use Rattle.{crate}.proofs.{'.'.join(path)}.Statement as stated\n\n"
+        f"pub {path[-1]}_spec : {{M : Type 1}} → stated.statement M\n{path[-1]}_spec = ?\n")
+
+
+def verdicts(said, crate):
+    """What the check says of each function, by its name."""
+    return dict(re.findall(rf"(?m)^fn {crate}::(\S+): (.*)$", said))
+
+
+def stands_proved(verdict, function):
+    """Whether the function's own proof has no hole and isn't refused."""
+    own = f".proofs.{function.replace('::', '.')}."
+    return verdict == "no holes" or verdict.startswith("depends on a hole in ") and own not in verdict
+
+
+def lacks_own_goal(verdict, function):
+    """Whether a goal of the function's own is not proved: one that the search left, or one whose answer is refused. The goals of a function
+    that stands in a cycle of calls begin with its name, and stand with the cycle's."""
+    path, name = function.replace("::", "/"), function.rpartition("::")[2]
+    left = r"no proof: expected answers in \./proofs/(\S+)/Answers\.antt; `search` did not prove (.*)"
+    refused = r"not proved; it stands on `Rattle\.\w+\.proofs\.(\S+)\.Answers\.(.*)"
+    found = re.match(left, verdict) or re.match(refused, verdict)
+    if not found:
+        return False
+    own, goals = found[1].replace(".", "/"), found[2]
+    return own == path or own.rpartition("/")[2].startswith("+") and f"{name}-" in goals
+
+
+def unread(said, function):
+    """The first line of an error that says that the function's answers, or the edited text, can't be read, rather than that a goal fails."""
+    own = f"proofs/{function.replace('::', '/')}/"
+    errors = [it for it in said.splitlines() if re.match(r"\S+:\d+:\d+: error", it)]
+    names = r"has no field|is not in scope|has no `|is no name|expected the end|cannot continue"
+    return next((it for it in errors if (own in it or it.startswith(("src/", "./src/", "specs/"))) and re.search(names, it)), "")
+
+
+def first_error(said):
+    """The first line in which a check tells an error, or its last line."""
+    lines = said.strip().splitlines() or [""]
+    return next((line for line in lines if "error" in line), lines[-1])[:240]
+
+
+def refused(said, edit):
+    """What is wrong with the way in which a check took the edit; nothing where it refused it for a goal of the function's own."""
+    verdict = verdicts(said, edit.crate).get(edit.proof)
+    if verdict is None:
+        return f"BAD EDIT, {edit.proof} was not tried: {first_error(said)}"
+    if stands_proved(verdict, edit.proof):
+        return f"NOT REFUSED: {edit.proof} is still proved"
+    if not lacks_own_goal(verdict, edit.proof) or unread(said, edit.proof):
+        return f"BAD EDIT, no goal of {edit.proof} is open: {verdict[:200]}; {unread(said, edit.proof) or first_error(said)}"
+    return None
+
+
+class Copy:
+    """A copy of a crate, in which the proofs of all functions but the named ones are holes, and the seconds that its checks took."""
+
+    def __init__(self, room, crate, named):
+        self.room, self.crate, self.seconds = room, crate, 0
+        for part in ("src", "specs", "proofs"):
+            if (kit.top / "crates" / crate / part).is_dir():
+                shutil.copytree(kit.top / "crates" / crate / part, room / part)
+        for function in kit.functions_of(crate):
+            # the proof of a closure stands in that of the function around it
+            if function not in named and "fn" not in function.split("::"):
+                hole(room, crate, function)
+
+    def fill(self, said):
+        """Puts back the proofs of functions that call themselves, which have a place of their own; answers whether there were any."""
+        found = re.findall(r"(?m)^\./(proofs/\S+)/Proof\.antt: error\[reserved-name\]", said)
+        for path in found:
+            shutil.rmtree(self.room / path)
+            if (kit.top / "crates" / self.crate / path).is_dir():
+                shutil.copytree(kit.top / "crates" / self.crate / path, self.room / path)
+        return bool(found)
+
+    def checked(self, functions):
+        """What a check of these functions says."""
+        only = [word for function in sorted(functions) for word in ("--only", function)]
+        said, seconds = kit.check(self.crate, self.room, [*only, "--allow-holes", "--incremental", self.room / "kept"])
+        self.seconds += seconds
+        return self.checked(functions) if self.fill(said) else said
+
+    def checked_with(self, batch):
+        """What a check of the edits' functions says, with the edits."""
+        whole = {edit.file: (self.room / edit.file).read_text() for edit in batch}
+        files = dict(whole)
+        for edit in batch:
+            files[edit.file] = edit.applied(files[edit.file])
+        for file, text in files.items():
+            (self.room / file).write_text(text)
+        said = self.checked({edit.proof for edit in batch})
+        for file, text in whole.items():
+            (self.room / file).write_text(text)
+        return said
 
 
 def tried(crate, edits):
-    """Whether the prover refuses each of these edits: they stand in the crate's folder only while they are tried."""
-    folder = top / "crates" / crate / "must-fail"
-    with contextlib.ExitStack() as behind:
-        if not folder.exists():
-            folder.mkdir()
-            behind.callback(folder.rmdir)
-        for edit in edits:
-            behind.callback(pathlib.Path(shutil.copy(edit, folder)).unlink)
-        return subprocess.run(["rt", "must-fail", crate], cwd=top).returncode == 0
+    """What is wrong with each of a crate's edits, by its name, and the processor seconds that trying them took."""
+    named = {edit.proof for edit in edits}
+    with tempfile.TemporaryDirectory(prefix="wrong-bodies-") as room:
+        copy = Copy(pathlib.Path(room), crate, named)
+        said = copy.checked(named)
+        found = verdicts(said, crate)
+        unproved = {it: found.get(it, "not tried") for it in named if not stands_proved(found.get(it, ""), it)}
+        wrong = {it.name: f"{it.proof} as it stands: {unproved[it.proof]}, {first_error(said)}" for it in edits if it.proof in unproved}
+        for batch in batches([it for it in edits if it.proof not in unproved]):
+            said = copy.checked_with(batch)
+            wrong.update({edit.name: refused(said, edit) for edit in batch})
+    return {name: why for name, why in wrong.items() if why}, copy.seconds
 
 
-if sys.argv[1:] == ["--stand"]:
-    wrong = [edit for crate, edits in of_crates.items() for edit in edits if not stands(crate, edit)]
-    passed = sum(map(len, of_crates.values())) - len(wrong)
-else:
-    crates = sys.argv[1:] or list(of_crates)
-    wrong = [crate for crate in crates if not tried(crate, of_crates[crate])]
-    passed = len(crates) - len(wrong)
-print(f"{passed} passed, {len(wrong)} failed")
-sys.exit(1 if wrong else 0)
+def all_edits():
+    """The wrong bodies of all crates."""
+    return [Edit(path) for path in sorted(here.glob("wrong_bodies/*/*.edit"))]
+
+
+def try_all(edits):
+    """The edits that weren't refused, and the processor seconds of each crate; both are told as they are found."""
+    by_crate, wrong, seconds = collections.defaultdict(list), {}, {}
+    # asked of rt in the first thread, as rt wants it
+    kit.crates()
+    for edit in edits:
+        by_crate[edit.crate].append(edit)
+    with concurrent.futures.ThreadPoolExecutor(os.cpu_count()) as pool:
+        runs = {pool.submit(tried, *it): it[0] for it in sorted(by_crate.items(), key=lambda it: -len(it[1]))}
+        for run in concurrent.futures.as_completed(runs):
+            crate = runs[run]
+            found, seconds[crate] = run.result()
+            wrong.update(found)
+            print(f"wrong bodies of {crate}: {len(by_crate[crate]) - len(found)} refused, {len(found)} not; {seconds[crate]:.0f} s of a processor")
+            for name, why in sorted(found.items()):
+                print(f"  {name}: {why}", flush=True)
+    return wrong, seconds
+
+
+def main(words):
+    edits = all_edits()
+    fallen = [it for it in edits if not it.stands()]
+    for edit in fallen:
+        print(f"{edit.name} can't be applied, or lacks a line")
+    if words == ["--stand"]:
+        print(f"{len(edits) - len(fallen)} passed, {len(fallen)} failed")
+        return 1 if fallen else 0
+    chosen = [it for it in edits if it not in fallen and (not words or it.crate in words or it.name in words)]
+    wrong, seconds = try_all(chosen)
+    print(f"{sum(seconds.values()) / 60:.1f} processor minutes")
+    print(f"{len(chosen) - len(wrong)} passed, {len(wrong) + len(fallen)} failed")
+    return 1 if wrong or fallen or not chosen else 0
+
+
+if __name__ == "__main__":
+    sys.exit(main(sys.argv[1:]))

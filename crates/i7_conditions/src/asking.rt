@@ -50,7 +50,11 @@ fn of_object(object: Found<Referent>, predicate: Found<Predicate>) -> Found<Basi
             Found::Unread => Found::Unread,
         },
         Found::TooMany => match predicate {
-            Found::Read(_) | Found::TooMany => Found::TooMany,
+            Found::Read(predicate) => {
+                drop(predicate);
+                Found::TooMany
+            }
+            Found::TooMany => Found::TooMany,
             Found::Unread => Found::Unread,
         },
         Found::Unread => Found::Unread,
@@ -68,7 +72,11 @@ fn of_numbers(first: Found<Number>, second: Found<Number>) -> Found<Basic>
             Found::Unread => Found::Unread,
         },
         Found::TooMany => match second {
-            Found::Read(_) | Found::TooMany => Found::TooMany,
+            Found::Read(second) => {
+                drop(second);
+                Found::TooMany
+            }
+            Found::TooMany => Found::TooMany,
             Found::Unread => Found::Unread,
         },
         Found::Unread => Found::Unread,
@@ -86,7 +94,11 @@ fn of_compared(how: Comparison, first: Found<Number>, second: Found<Number>) -> 
             Found::Unread => Found::Unread,
         },
         Found::TooMany => match second {
-            Found::Read(_) | Found::TooMany => Found::TooMany,
+            Found::Read(second) => {
+                drop(second);
+                Found::TooMany
+            }
+            Found::TooMany => Found::TooMany,
             Found::Unread => Found::Unread,
         },
         Found::Unread => Found::Unread,

@@ -2,6 +2,7 @@
 ghost use Rattle.std.specs.Prelude.{◌≡◌, ◌≤◌, List, length, IfOk};
 ghost use Rattle.play_meaning.specs.Trees as tree;
 ghost use Rattle.i7_conditions.specs.Asking.{found_clause};
+ghost use Rattle.i7_conditions.specs.ClauseForms.{clause_said};
 ghost use Rattle.i7_conditions.specs.Clauses.{asks_over};
 ghost use Rattle.i7_conditions.specs.Conditions.{IsCondition};
 ghost use Rattle.i7_conditions.specs.Conjoining.{condition_said, conjunction_said, found_condition, found_conjunction};
@@ -55,6 +56,25 @@ fn with_clause(
     }
 }
 
+/// Clauses, with the one behind them that words are.
+fn and_said(
+    alloc: Global,
+    scope: &Scope<'_>,
+    front: Found<Conjunction>,
+    part: &[TextBytes],
+) -> Result<Found<Conjunction>, AllocError>
+    requires few { length (scope_of scope.now).repeats ≤ 255 }
+    ensures { IfOk result (λ found. found_conjunction found ≡ two tree.And (found_conjunction front) (clause_said (scope_of scope.now) part.now)) }
+{
+    match clause_said(alloc, scope, part) {
+        Ok(clause) => with_clause(front, clause),
+        Err(refused) => {
+            drop(front);
+            Err(refused)
+        }
+    }
+}
+
 /// What the clauses that words are, joined by `and`, ask together.
 #[tactic(auto, unfolding(crate::specs::Conjoining::conjunction_said))]
 fn conjunction_said(
@@ -69,7 +89,7 @@ fn conjunction_said(
     let mut all = clause_alone(alloc, clause_said(alloc, scope, first)?);
     while let Some(rest) = behind {
         let (part, after) = cut(Joint::And, rest);
-        all = with_clause(all, clause_said(alloc, scope, part)?)?;
+        all = and_said(alloc, scope, all, part)?;
         behind = after;
     }
     Ok(all)
@@ -106,10 +126,33 @@ fn with_conjunction(
             Found::Unread => Ok(Found::Unread),
         },
         Found::TooMany => match conjunction {
-            Found::Read(_) | Found::TooMany => Ok(Found::TooMany),
+            Found::Read(conjunction) => {
+                drop(conjunction);
+                Ok(Found::TooMany)
+            }
+            Found::TooMany => Ok(Found::TooMany),
             Found::Unread => Ok(Found::Unread),
         },
         Found::Unread => Ok(Found::Unread),
+    }
+}
+
+/// What `or` joins, with what words behind it ask.
+fn or_said(
+    alloc: Global,
+    scope: &Scope<'_>,
+    front: Found<Condition>,
+    part: &[TextBytes],
+) -> Result<Found<Condition>, AllocError>
+    requires few { length (scope_of scope.now).repeats ≤ 255 }
+    ensures { IfOk result (λ found. found_condition found ≡ two tree.Or (found_condition front) (conjunction_said (scope_of scope.now) part.now)) }
+{
+    match conjunction_said(alloc, scope, part) {
+        Ok(conjunction) => with_conjunction(front, conjunction),
+        Err(refused) => {
+            drop(front);
+            Err(refused)
+        }
     }
 }
 
@@ -127,7 +170,7 @@ pub fn condition_said(
     let mut any = conjunction_alone(alloc, conjunction_said(alloc, scope, first)?);
     while let Some(rest) = behind {
         let (part, after) = cut(Joint::Or, rest);
-        any = with_conjunction(any, conjunction_said(alloc, scope, part)?)?;
+        any = or_said(alloc, scope, any, part)?;
         behind = after;
     }
     Ok(any)

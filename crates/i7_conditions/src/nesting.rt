@@ -48,6 +48,7 @@ fn with_phrase(phrase: Phrase, level: Level) -> Result<Option<Level>, AllocError
     ensures { IfOk result (λ found. option_map level_of found ≡ with_phrase (phrase_meant phrase) (level_of level)) }
 {
     if level.waits {
+        drop(phrase);
         return Ok(None);
     }
     let mut level = level;
@@ -118,7 +119,10 @@ fn with_inner(
     ensures { IfOk result (λ found. option_map level_of found ≡ with_inner step (body_meant inner.items) (level_of level)) }
 {
     match step {
-        Step::Does(_) | Step::Instead(_) => Ok(None),
+        Step::Does(simple) | Step::Instead(simple) => {
+            drop(simple);
+            Ok(None)
+        }
         Step::If(condition) => Ok(Some(with_choice(alloc, condition, inner, level)?)),
         Step::OtherwiseIf(condition) => Ok(Some(with_branch(condition, inner, level)?)),
         Step::Otherwise => Ok(with_otherwise(alloc, inner, level)),
@@ -147,6 +151,7 @@ fn behind(
     ensures { IfOk result (λ found. option_map level_of found ≡ behind step (level_of inner) (level_of level)) }
 {
     if inner.waits {
+        drop(step);
         return Ok(None);
     }
     with_inner(alloc, step, body_in(inner), level)
@@ -182,6 +187,7 @@ fn place_alone(alloc: Global, line: Line, levels: &mut Vec<Level>) -> Result<boo
     ensures { IfOk result (λ kept. (if kept then Some (levels_of levels.new.items) else None) ≡ placed line.depth line.step (levels_of levels.old.items)) }
 {
     let Some(level) = levels.pop() else {
+        drop(line);
         return Ok(false);
     };
     let found = alone(alloc, line.step, level)?;

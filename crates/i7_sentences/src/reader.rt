@@ -59,6 +59,7 @@ fn named_heard(line: u32, is_reserved: bool, said: Assertion) -> Heard
     ensures { result ≡ named_heard line is_reserved said }
 {
     if is_reserved {
+        drop(said);
         Heard::Reserved(line)
     } else {
         Heard::Says(said)

@@ -23,7 +23,10 @@ fn unless_unread(line: Option<u32>, next: Heard) -> Heard
 {
     match line {
         None => next,
-        Some(line) => Heard::Unread(line),
+        Some(line) => {
+            drop(next);
+            Heard::Unread(line)
+        }
     }
 }
 
@@ -33,7 +36,10 @@ fn unless_reserved(line: Option<u32>, next: Heard) -> Heard
 {
     match line {
         None => next,
-        Some(line) => Heard::Reserved(line),
+        Some(line) => {
+            drop(next);
+            Heard::Reserved(line)
+        }
     }
 }
 

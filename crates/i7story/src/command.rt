@@ -4,41 +4,110 @@ use clap::{Arg, ArgAction, ArgMatches, Command, Error};
 use source_player::ProgramFault;
 use std::alloc::{AllocError, Global};
 
+/// How a file is played.
+#[derive(Clone, Copy, Debug, Drop)]
+pub struct Playing<'a> {
+    /// The file of the commands, where they don't come from standard input.
+    pub commands: Option<&'a str>,
+    /// Whether the commands are echoed.
+    pub transcript: bool,
+}
+
 /// What the program is told to do.
 #[derive(Clone, Copy, Debug, Drop)]
 pub enum Order<'a> {
-    Compile { source: &'a str, story: &'a str },
-    Play { story: &'a str, transcript: bool },
-    Run { source: &'a str, transcript: bool },
+    Compile {
+        source: &'a str,
+        story: &'a str,
+    },
+    Play {
+        story: &'a str,
+        playing: Playing<'a>,
+    },
+    Run {
+        source: &'a str,
+        playing: Playing<'a>,
+    },
 }
 
-/// A form that plays a file and may echo the commands.
-fn playing<'a>(alloc: Global, name: &'a str, file: &'a str) -> Result<Command<'a>, AllocError> {
-    Command::new(alloc, name)
-        .arg(Arg::new(alloc, file).required(true))?
+/// A word that must be there.
+fn file<'a>(alloc: Global, name: &'a str, help: &'a str) -> Arg<'a> {
+    Arg::new(alloc, name).required(true).help(help)
+}
+
+/// A form that plays a file, with commands from a file or from standard input, and may echo them.
+fn playing<'a>(
+    command: Command<'a>,
+    alloc: Global,
+    file: Arg<'a>,
+) -> Result<Command<'a>, AllocError> {
+    command
+        .arg(file)?
+        .arg(
+            Arg::new(alloc, "commands")
+                .long("commands")
+                .value_name("FILE")
+                .action(ArgAction::Set)
+                .help(
+                    "Reads the commands from FILE, a line each; without it they come from standard input",
+                ),
+        )?
         .arg(
             Arg::new(alloc, "transcript")
                 .long("transcript")
-                .action(ArgAction::SetTrue),
+                .action(ArgAction::SetTrue)
+                .help(
+                    "Writes each command behind its prompt, so that what is written is the whole transcript",
+                ),
         )
+}
+
+/// The form that compiles.
+fn compiling<'a>(alloc: Global) -> Result<Command<'a>, AllocError> {
+    let story = "The story file; one that is there stays as it is until the new one is whole";
+    Command::new(alloc, "compile")
+        .about("Compiles a source to a story file")
+        .after_help("Example: i7story compile stories/ferry.i7 ferry.story")
+        .arg(file(
+            alloc,
+            "SOURCE",
+            "The source, a text as stories/two-rooms.i7 is one; - is standard input",
+        ))?
+        .arg(file(alloc, "STORY", story))
 }
 
 /// The forms of the program.
 fn forms<'a>(alloc: Global) -> Result<Command<'a>, AllocError> {
-    let compile = Command::new(alloc, "compile")
-        .arg(Arg::new(alloc, "SOURCE").required(true))?
-        .arg(Arg::new(alloc, "STORY").required(true))?;
+    let play = Command::new(alloc, "play")
+        .about("Plays a story file: reads commands and writes what is answered")
+        .after_help("Example: i7story play ferry.story --transcript");
+    let run = Command::new(alloc, "run")
+        .about("Plays a source, as its story file is played")
+        .after_help("Example: i7story run stories/two-rooms.i7");
+    let story =
+        "The story file, as the form compile writes it; with --commands, - is standard input";
+    let source =
+        "The source, a text as stories/two-rooms.i7 is one; with --commands, - is standard input";
     Command::new(alloc, "i7story")
+        .about("Compiles and plays stories that are written in a profile of Inform 7")
+        .after_help("Example: i7story run stories/two-rooms.i7, and then type: look")
         .subcommand_required(true)
-        .subcommand(compile)?
-        .subcommand(playing(alloc, "play", "STORY")?)?
-        .subcommand(playing(alloc, "run", "SOURCE")?)
+        .subcommand(compiling(alloc)?)?
+        .subcommand(playing(play, alloc, file(alloc, "STORY", story))?)?
+        .subcommand(playing(run, alloc, file(alloc, "SOURCE", source))?)
+}
+
+/// How the words of a form tell to play.
+fn playing_in<'a>(found: &ArgMatches<'a>) -> Playing<'a> {
+    Playing {
+        commands: found.get_str("commands"),
+        transcript: found.contains_id("transcript") && found.get_flag("transcript"),
+    }
 }
 
 /// The order in the words that were found.
 fn order_in<'a>(matches: &ArgMatches<'a>) -> Option<Order<'a>> {
     let (name, found) = matches.subcommand()?;
-    let transcript = found.contains_id("transcript") && found.get_flag("transcript");
     match name {
         "compile" => Some(Order::Compile {
             source: found.get_str("SOURCE")?,
@@ -46,11 +115,11 @@ fn order_in<'a>(matches: &ArgMatches<'a>) -> Option<Order<'a>> {
         }),
         "play" => Some(Order::Play {
             story: found.get_str("STORY")?,
-            transcript,
+            playing: playing_in(found),
         }),
         "run" => Some(Order::Run {
             source: found.get_str("SOURCE")?,
-            transcript,
+            playing: playing_in(found),
         }),
         _ => None,
     }
@@ -67,12 +136,17 @@ fn refusal<'a>(alloc: Global, error: &Error) -> ProgramFault<'a> {
     }
 }
 
-/// A word of the program that can't be read is a faulty word.
-pub fn unreadable<'a>(alloc: Global) -> ProgramFault<'a> {
-    match String::from_str(alloc, "i7story: a word that isn't UTF-8\n") {
+/// Words that are faulty as this sentence says.
+pub fn faulty<'a>(alloc: Global, sentence: &str) -> ProgramFault<'a> {
+    match String::from_str(alloc, sentence) {
         Ok(text) => ProgramFault::Words(text),
         Err(_) => ProgramFault::Memory,
     }
+}
+
+/// A word of the program that can't be read is a faulty word.
+pub fn unreadable<'a>(alloc: Global) -> ProgramFault<'a> {
+    faulty(alloc, "i7story: a word that isn't UTF-8\n")
 }
 
 /// What the words tell the program to do.

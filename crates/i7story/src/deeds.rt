@@ -4,26 +4,51 @@ ghost use Rattle.standard_rules.specs.Answers.{HasEffect};
 ghost use Rattle.standard_rules.specs.Hosts.{are_there};
 ghost use Rattle.story_player.specs.Watches.{watched_failed};
 
-use crate::command::Order;
+use crate::command::{Order, Playing, faulty};
+use crate::saving::{is_same_file, save};
 use play_meaning::ActionNow;
 use source_player::{ProgramFault, SourceRunFault, run_source, run_story};
 use standard_rules::{HostAnswer, HostCall, HostRule, HostTable, standard};
 use std::alloc::{AllocError, Global};
-use std::fs;
-use std::io::{self, BufReader, Stdin};
+use std::fs::{self, File};
+use std::io::{self, BufReader, ErrorKind, Read};
 use story_file::compile;
 use story_player::Watched;
 use world_store::World;
 
-/// Reads a file whole.
+/// The path that is standard input where a file is read, and what it leads to.
+const INPUT: &str = "-";
+
+const STANDARD_INPUT: &str = "/dev/stdin";
+
+/// The program's fault where a file of this path isn't read.
+fn unread<'a>(path: &'a str, error: &io::Error) -> ProgramFault<'a> {
+    if error.kind() == ErrorKind::OutOfMemory {
+        ProgramFault::Memory
+    } else {
+        ProgramFault::CannotRead(path)
+    }
+}
+
+/// Reads a file whole, or standard input.
 fn bytes_of<'a>(rt: &HostRuntime, path: &'a str) -> Result<Vec<u8>, ProgramFault<'a>> {
-    fs::read(rt, path).map_err(|error| {
-        if error.kind() == io::ErrorKind::OutOfMemory {
-            ProgramFault::Memory
-        } else {
-            ProgramFault::CannotRead(path)
-        }
-    })
+    let read = if path == INPUT {
+        let mut bytes = Vec::new(rt.alloc());
+        rt.stdin().read_to_end(&mut bytes).map(|_| bytes)
+    } else {
+        fs::read(rt, path)
+    };
+    read.map_err(|error| unread(path, &error))
+}
+
+/// Whether a story would take the place of its own source.
+fn is_source(rt: &HostRuntime, source: &str, story: &str) -> bool {
+    let source = if source == INPUT {
+        STANDARD_INPUT
+    } else {
+        source
+    };
+    is_same_file(rt, source, story)
 }
 
 /// Compiles a source file to a story file.
@@ -36,14 +61,20 @@ fn compile_file<'a>(
     let compiled = compile(rt.alloc(), bytes.as_slice()).map_err(|fault| ProgramFault::Source(
         source, fault,
     ))?;
-    fs::write(rt, story, compiled.as_slice()).map_err(|_| ProgramFault::CannotWrite(story))
+    if is_source(rt, source, story) {
+        return Err(ProgramFault::CannotWrite(story));
+    }
+    save(rt, story, compiled.as_slice())
 }
 
-/// The commands: the standard input, read by the block.
-fn commands<'a>(rt: &HostRuntime) -> Result<Watched<BufReader<Stdin>>, ProgramFault<'a>>
+/// The commands that a reader gives, read by the block.
+fn commands<'a, R: Read + Drop>(
+    rt: &HostRuntime,
+    reader: R,
+) -> Result<Watched<BufReader<R>>, ProgramFault<'a>>
     ensures { IfOk result (λ input. watched_failed input ≡ false) }
 {
-    match BufReader::new(rt.alloc(), rt.stdin()) {
+    match BufReader::new(rt.alloc(), reader) {
         Ok(input) => Ok(Watched::new(input)),
         Err(_) => Err(ProgramFault::Memory),
     }
@@ -67,37 +98,71 @@ enum Holds {
     Source,
 }
 
-/// Plays the bytes of a file over the standard streams.
-fn play_bytes<'a>(
-    rt: &HostRuntime,
+/// A file that is played: its path, what it holds, and whether the commands are echoed.
+#[derive(Drop)]
+struct Played<'a> {
     path: &'a str,
     holds: Holds,
-    bytes: &[u8],
-    hosts: HostTable,
+    bytes: Vec<u8>,
     transcript: bool,
+}
+
+/// Plays a file over the commands of a reader and the standard output.
+fn play<'a, R: Read + Drop>(
+    rt: &HostRuntime,
+    played: &Played<'a>,
+    hosts: HostTable,
+    reader: R,
 ) -> Result<(), ProgramFault<'a>> {
-    let mut input = commands(rt)?;
+    let mut input = commands(rt, reader)?;
     let mut output = Watched::new(rt.stdout());
     let alloc = rt.alloc();
-    let played = match holds {
-        Holds::Story => run_story(alloc, bytes, hosts, &mut input, &mut output, transcript),
-        Holds::Source => run_source(alloc, bytes, hosts, &mut input, &mut output, transcript),
+    let bytes = played.bytes.as_slice();
+    let echo = played.transcript;
+    let ending = match played.holds {
+        Holds::Story => run_story(alloc, bytes, hosts, &mut input, &mut output, echo),
+        Holds::Source => run_source(alloc, bytes, hosts, &mut input, &mut output, echo),
     };
-    match played {
+    match ending {
         Ok(_) => Ok(()),
-        Err(fault) => Err(playing_fault(path, fault)),
+        Err(fault) => Err(playing_fault(played.path, fault)),
     }
 }
 
-/// Plays a file over the standard streams, each stored rule being the standard one of its number.
+/// The file of the commands, where they come from one. Standard input can't give both what is played and the commands.
+fn commands_file<'a>(
+    rt: &HostRuntime,
+    path: &str,
+    commands: Option<&'a str>,
+) -> Result<Option<File>, ProgramFault<'a>> {
+    match commands {
+        Some(commands) => match File::open(rt, commands) {
+            Ok(file) => Ok(Some(file)),
+            Err(error) => Err(unread(commands, &error)),
+        },
+        None if path == INPUT => Err(faulty(
+            rt.alloc(),
+            "i7story: - is no file, since the commands come from standard input; with --commands FILE it is standard input\n",
+        )),
+        None => Ok(None),
+    }
+}
+
+/// Plays a file over its commands and the standard output, each stored rule being the standard one of its number.
 #[tactic(auto, unfolding(standard_rules::specs::Answers::HasEffect))]
 fn play_file<'a>(
     rt: &HostRuntime,
     path: &'a str,
     holds: Holds,
-    transcript: bool,
+    playing: Playing<'a>,
 ) -> Result<(), ProgramFault<'a>> {
-    let bytes = bytes_of(rt, path)?;
+    let file = commands_file(rt, path, playing.commands)?;
+    let played = Played {
+        path,
+        holds,
+        bytes: bytes_of(rt, path)?,
+        transcript: playing.transcript,
+    };
     let mut hosts = HostTable::new(rt.alloc());
     for id in 1..62u8 {
         let call: HostCall = match Box::new(
@@ -114,14 +179,17 @@ fn play_file<'a>(
             return Err(ProgramFault::Memory);
         }
     }
-    play_bytes(rt, path, holds, bytes.as_slice(), hosts, transcript)
+    match file {
+        Some(file) => play(rt, &played, hosts, file),
+        None => play(rt, &played, hosts, rt.stdin()),
+    }
 }
 
 /// Does what the program is told.
 pub fn obey<'a>(rt: &HostRuntime, order: Order<'a>) -> Result<(), ProgramFault<'a>> {
     match order {
         Order::Compile { source, story } => compile_file(rt, source, story),
-        Order::Play { story, transcript } => play_file(rt, story, Holds::Story, transcript),
-        Order::Run { source, transcript } => play_file(rt, source, Holds::Source, transcript),
+        Order::Play { story, playing } => play_file(rt, story, Holds::Story, playing),
+        Order::Run { source, playing } => play_file(rt, source, Holds::Source, playing),
     }
 }

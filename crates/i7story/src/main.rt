@@ -3,6 +3,7 @@
 
 mod command;
 mod deeds;
+mod saving;
 
 use command::{told, unreadable};
 use deeds::obey;

@@ -1,6 +1,6 @@
 //! The rulebooks of a source, rule by rule.
 use crate::book_names::name_of;
-use crate::outline::{Outline, told_of};
+use crate::outline::Outline;
 use crate::placing::listed_as;
 use i7_rules::{STANDARD_NAMES, SourceRule};
 use play_meaning::tree::{Aspect, RuleHead};
@@ -135,12 +135,4 @@ pub fn books_told(alloc: Global, outline: Outline<'_>) -> Result<String, AllocEr
         add_book(alloc, &mut told, outline, book)?;
     }
     Ok(told)
-}
-
-/// The rulebooks of a source, or why there are none.
-pub fn told(alloc: Global, source: &str) -> Result<String, AllocError> {
-    match told_of(alloc, source) {
-        Ok(told) => Ok(told),
-        Err(unlisted) => format!(in alloc; "{unlisted}\n"),
-    }
 }

@@ -37,14 +37,14 @@ pub struct Outline<'a> {
 }
 
 /// The story of a source.
-fn story_of(alloc: Global, source: &str) -> Result<Story, Unlisted> {
-    let bytes = compile(alloc, source.as_bytes())?;
+fn story_of(alloc: Global, source: &[u8]) -> Result<Story, Unlisted> {
+    let bytes = compile(alloc, source)?;
     Ok(load(alloc, bytes.as_slice())?)
 }
 
 /// The sentences of a source.
-fn sentences_of(alloc: Global, source: &str) -> Result<Vec<Sentence>, Unlisted> {
-    let lexed = lex(alloc, source.as_bytes())?;
+fn sentences_of(alloc: Global, source: &[u8]) -> Result<Vec<Sentence>, Unlisted> {
+    let lexed = lex(alloc, source)?;
     Ok(read(alloc, &lexed)?)
 }
 
@@ -114,7 +114,7 @@ fn told_with(alloc: Global, sentences: &[Sentence], story: &Story) -> Result<Str
 }
 
 /// The rulebooks of a source, if it is accepted.
-pub fn told_of(alloc: Global, source: &str) -> Result<String, Unlisted> {
+pub fn told_of(alloc: Global, source: &[u8]) -> Result<String, Unlisted> {
     let story = story_of(alloc, source)?;
     let sentences = sentences_of(alloc, source)?;
     told_with(alloc, sentences.as_slice(), &story)

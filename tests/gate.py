@@ -1,0 +1,127 @@
+#!/usr/bin/env python3
+"""The gate: each wrong body can be applied; `rt ci` proves everything from nothing, and passes the tests and the programs; over what it
+left each wrong body is refused; and each script of tests/ passes over the built program. It ends with what that took, by crate and sort.
+
+Use: tests/gate.py"""
+import collections
+import os
+import pathlib
+import re
+import subprocess
+import sys
+import threading
+import time
+
+here = pathlib.Path(__file__).resolve().parent
+sys.path.insert(0, str(here.parent / "tools"))
+import kit
+import scripts
+import wrong_bodies
+
+TICKS = os.sysconf("SC_CLK_TCK")
+PAGE = os.sysconf("SC_PAGE_SIZE")
+SORTS = ["proofs", "tests", "programs", "wrong bodies"]
+
+
+class Watch:
+    """Reads every half second what the prover's processes have used: processor seconds by crate and sort, and memory."""
+
+    def __init__(self):
+        self.used, self.most_at_once, self.most_of_one, self.ended = {}, 0, 0, threading.Event()
+        self.thread = threading.Thread(target=self.watch)
+        self.thread.start()
+
+    def watch(self):
+        while not self.ended.wait(0.5):
+            held = [self.read(pid) for pid in os.listdir("/proc") if pid.isdigit()]
+            self.most_at_once = max(self.most_at_once, sum(held))
+            self.most_of_one = max([self.most_of_one, *held])
+
+    def read(self, pid):
+        """The bytes that the process holds, if it is the prover's; what it used so far is kept by its crate and sort."""
+        try:
+            words = pathlib.Path("/proc", pid, "cmdline").read_bytes().decode(errors="replace").split("\0")
+            if not words[0].endswith("/bin/rattle") or "--crate-name" not in words:
+                return 0
+            fields = pathlib.Path("/proc", pid, "stat").read_text().rpartition(")")[2].split()
+        except OSError:
+            return 0
+        sort = "tests" if "--test" in words else "programs" if "--crate-checked" in words else "proofs"
+        crate = words[words.index("--crate-name") + 1]
+        # utime, stime and those of its children, its start, its resident pages: fields 14 to 17, 22 and 24 of proc(5)
+        self.used[pid, fields[19]] = crate, sort, sum(map(int, fields[11:15])) / TICKS
+        return int(fields[21]) * PAGE
+
+    def end(self):
+        """The seconds by crate and sort."""
+        self.ended.set()
+        self.thread.join()
+        seconds = collections.Counter()
+        for crate, sort, used in self.used.values():
+            seconds[crate, sort] += used
+        return seconds
+
+
+def proved():
+    """Whether `rt ci` passes, and how many it says have passed. It runs as many checks at once as there are processors, since it guesses
+    at more memory than they take; what it says is kept, for the wrong bodies."""
+    kit.kept.mkdir(exist_ok=True)
+    how = {"cwd": kit.top, "env": {"RT_JOBS": str(os.cpu_count()), **os.environ}, "stdin": subprocess.DEVNULL}
+    last = ""
+    with open(kit.kept / "ci.log", "w") as log:
+        with subprocess.Popen(["rt", "ci"], stdout=subprocess.PIPE, stderr=subprocess.STDOUT, text=True, errors="replace", **how) as command:
+            for last in command.stdout:
+                log.write(last)
+                # one line a function would be thousands
+                if not re.match(r"fn \S+: proved$", last):
+                    print(last, end="", flush=True)
+    found = re.match(r"(\d+) passed, 0 failed", last)
+    return command.returncode == 0 and found is not None, int(found[1]) if found else 0
+
+
+def table(seconds):
+    """The processor minutes by crate and sort, the dearest crate first."""
+    of_crate = collections.Counter()
+    for (crate, _), used in seconds.items():
+        of_crate[crate] += used
+    rows = [("processor minutes", *SORTS)]
+    for crate, _ in of_crate.most_common():
+        rows.append((crate, *(f"{seconds[crate, sort] / 60:.1f}" for sort in SORTS)))
+    rows.append(("all", *(f"{sum(used for (_, of), used in seconds.items() if of == sort) / 60:.1f}" for sort in SORTS)))
+    return "\n".join(f"{row[0]:20}" + "".join(f"{field:>14}" for field in row[1:]) for row in rows)
+
+
+def used_so_far():
+    """The processor seconds of all that this process ran and waited for."""
+    times = os.times()
+    return times.children_user + times.children_system
+
+
+def main():
+    began = time.time()
+    edits = wrong_bodies.all_edits()
+    if not all([it.stands() for it in edits]):
+        sys.exit(wrong_bodies.main(["--stand"]))
+    watch = Watch()
+    well, passed = proved()
+    seconds, of_proofs = watch.end(), used_so_far()
+    if not well:
+        return 1
+    for name in ("i7story", "calls", "rule_listing"):
+        kit.stamp(kit.proved(name), kit.sources(name))
+    wrong, of_edits = wrong_bodies.try_all(edits)
+    of_wrong_bodies = used_so_far() - of_proofs
+    seconds.update({(crate, "wrong bodies"): used for crate, used in of_edits.items()})
+    failed, ran = scripts.all_told(kit.proved("i7story"), [])
+    of_scripts = used_so_far() - of_proofs - of_wrong_bodies
+    print(table(seconds))
+    print(f"rt ci {of_proofs / 60:.1f}, wrong bodies {of_wrong_bodies / 60:.1f}, scripts {of_scripts / 60:.1f} processor minutes: "
+          f"{used_so_far() / 60:.1f} in all, {(time.time() - began) / 60:.1f} by the clock on {os.cpu_count()} processors")
+    print(f"memory: {watch.most_of_one / 1e9:.1f} GB at most of one check, {watch.most_at_once / 1e9:.1f} GB of those at once")
+    failures = len(wrong) + len(failed)
+    print(f"{passed + len(edits) - len(wrong) + ran - len(failed)} passed, {failures} failed")
+    return 1 if failures else 0
+
+
+if __name__ == "__main__":
+    sys.exit(main())

@@ -1,0 +1,119 @@
+"""The repository's crates, and what the kit's command `rt` does with them: asked of rt's own library where rt has no word for it, as to
+check a copy of a crate."""
+import functools
+import hashlib
+import importlib.util
+import os
+import pathlib
+import re
+import subprocess
+import sys
+import tempfile
+
+sys.dont_write_bytecode = True
+top = pathlib.Path(__file__).resolve().parents[1]
+kept = top / "out"
+
+
+@functools.lru_cache(maxsize=None)
+def home():
+    """The kit's folder."""
+    return pathlib.Path(subprocess.run(["rt", "doc"], capture_output=True, text=True, check=True).stdout.strip()).parent
+
+
+@functools.lru_cache(maxsize=None)
+def library():
+    """The library of rt, which stands beside it."""
+    spec = importlib.util.spec_from_file_location("rtlib", home() / "bin" / "rtlib.py")
+    made = importlib.util.module_from_spec(spec)
+    sys.modules["rtlib"] = made
+    spec.loader.exec_module(made)
+    made.guarded()
+    return made
+
+
+@functools.lru_cache(maxsize=None)
+def crates():
+    """The crates as rt knows them, by their names, each after those that it stands on."""
+    found = library().crates_below(str(top))
+    return {it.name: it for it in sorted(found, key=lambda it: len(it.below()))}
+
+
+@functools.lru_cache(maxsize=None)
+def lines_of_crates():
+    """The libraries that each crate of crates.txt names, those of the kit among them."""
+    lines = [line for line in (top / "crates.txt").read_text().splitlines() if line and not line.startswith("#")]
+    return {line.partition(":")[0].strip(): line.partition(":")[2].split() for line in lines}
+
+
+def stands_on(name):
+    """The crates of the repository that a crate stands on, itself among them."""
+    found, left = set(), [name]
+    while left:
+        name = left.pop()
+        if name in lines_of_crates() and name not in found:
+            found.add(name)
+            left += lines_of_crates()[name]
+    return found
+
+
+def sources(name):
+    """A sum of all that a program is made of: the text of its crate and of those that it stands on, and what crates.txt says of them."""
+    made = hashlib.sha256()
+    for crate in sorted(stands_on(name)):
+        made.update(repr((crate, lines_of_crates()[crate])).encode())
+        for part in ("src", "specs", "proofs"):
+            for folder, folders, files in os.walk(top / "crates" / crate / part):
+                folders.sort()
+                for file in sorted(files):
+                    with open(f"{folder}/{file}", "rb") as text:
+                        made.update(f"{folder}/{file}\0".encode().removeprefix(bytes(top)) + hashlib.sha256(text.read()).digest())
+    return made.hexdigest()
+
+
+def proved(name):
+    """The program that was proved and built."""
+    return top / "crates" / name / "out" / name
+
+
+def built(name):
+    """The program that was built without proofs."""
+    return kept / "built" / name
+
+
+def is_of(program, sums):
+    """Whether the program is there, and made of sources of this sum."""
+    stamp = program.with_name(program.name + ".sources")
+    return os.access(program, os.X_OK) and stamp.is_file() and stamp.read_text().strip() == sums
+
+
+def stamp(program, sums):
+    """Keeps beside a program of which sources it is made."""
+    program.with_name(program.name + ".sources").write_text(sums + "\n")
+
+
+def ran(words, **how):
+    """A command's status, what it said on both streams, its processor seconds and the most memory that one process of it held, in MB."""
+    with tempfile.TemporaryFile() as said:
+        command = subprocess.Popen(words, stdin=subprocess.DEVNULL, stdout=said, stderr=subprocess.STDOUT, **how)
+        _, status, used = os.wait4(command.pid, 0)
+        command.returncode = os.waitstatus_to_exitcode(status)
+        said.seek(0)
+        return command.returncode, said.read().decode(errors="replace"), used.ru_utime + used.ru_stime, used.ru_maxrss // 1024
+
+
+def check(crate, folder, flags):
+    """What a check of the crate's text in this folder says, over the libraries that stand in the repository, and its processor seconds."""
+    words = crates()[crate].words(["--jobs", "1"], keeps=False)
+    _, said, seconds, _ = ran([*library().guarded(), library().RATTLE, "check", *words, *flags], cwd=folder)
+    return said, seconds
+
+
+def functions_of(crate):
+    """The functions of the crate, as the newest of its proofs told them: that of `rt ci`, or that of `./i7story prove`."""
+    logs = [it for it in (kept / "ci.log", kept / "prove" / f"{crate}.log") if it.is_file()]
+    for log in sorted(logs, key=lambda it: -it.stat().st_mtime):
+        found = re.findall(rf"(?m)^fn {crate}::(\S+): proved$", log.read_text())
+        if found:
+            return list(dict.fromkeys(found))
+    return []
