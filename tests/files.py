@@ -135,10 +135,7 @@ def streams_are_written():
     """What is no plain file is written as it stands."""
     whole = story_of("two.i7")
     count("a pipe", whole.startswith(b"I7ST"), whole[:10])
-    with open("behind", "wb") as out:
-        out.write(b"before")
-        out.flush()
-        done = subprocess.run([program, "compile", "two.i7", "/dev/fd/3"], preexec_fn=lambda: os.dup2(out.fileno(), 3), close_fds=False)
+    done = subprocess.run(["bash", "-c", '"$0" compile two.i7 /dev/fd/3 3>behind', program])
     count("/dev/fd/3", done.returncode == 0 and pathlib.Path("behind").read_bytes() == whole)
     with open("out", "wb") as out:
         done = subprocess.run([program, "compile", "two.i7", "/dev/stdout"], stdout=out)

@@ -66,7 +66,7 @@ def proved():
     """Whether `rt ci` passes, and how many it says have passed. It runs as many checks at once as there are processors, since it guesses
     at more memory than they take; what it says is kept, for the wrong bodies."""
     kit.kept.mkdir(exist_ok=True)
-    how = {"cwd": kit.top, "env": {"RT_JOBS": str(os.cpu_count()), **os.environ}, "stdin": subprocess.DEVNULL}
+    how = {"cwd": kit.top, "env": {"RT_JOBS": str(len(os.sched_getaffinity(0))), **os.environ}, "stdin": subprocess.DEVNULL}
     last = ""
     with open(kit.kept / "ci.log", "w") as log:
         with subprocess.Popen(["rt", "ci"], stdout=subprocess.PIPE, stderr=subprocess.STDOUT, text=True, errors="replace", **how) as command:
@@ -116,7 +116,7 @@ def main():
     of_scripts = used_so_far() - of_proofs - of_wrong_bodies
     print(table(seconds))
     print(f"rt ci {of_proofs / 60:.1f}, wrong bodies {of_wrong_bodies / 60:.1f}, scripts {of_scripts / 60:.1f} processor minutes: "
-          f"{used_so_far() / 60:.1f} in all, {(time.time() - began) / 60:.1f} by the clock on {os.cpu_count()} processors")
+          f"{used_so_far() / 60:.1f} in all, {(time.time() - began) / 60:.1f} by the clock on {len(os.sched_getaffinity(0))} processors")
     print(f"memory: {watch.most_of_one / 1e9:.1f} GB at most of one check, {watch.most_at_once / 1e9:.1f} GB of those at once")
     failures = len(wrong) + len(failed)
     print(f"{passed + len(edits) - len(wrong) + ran - len(failed)} passed, {failures} failed")

@@ -35,7 +35,7 @@ def run(script, program):
 def all_run(program, names):
     """What each script of these names came to, told as it ends."""
     chosen = lambda scripts: [it for it in scripts if not names or it.partition(".")[0] in names]
-    with concurrent.futures.ThreadPoolExecutor(os.cpu_count()) as pool:
+    with concurrent.futures.ThreadPoolExecutor(len(os.sched_getaffinity(0))) as pool:
         yield from (it.result() for it in concurrent.futures.as_completed([pool.submit(run, it, program) for it in chosen(SIDE_BY_SIDE)]))
     yield from (run(it, program) for it in chosen(ALONE))
 

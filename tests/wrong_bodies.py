@@ -213,7 +213,7 @@ def try_all(edits):
     kit.crates()
     for edit in edits:
         by_crate[edit.crate].append(edit)
-    with concurrent.futures.ThreadPoolExecutor(os.cpu_count()) as pool:
+    with concurrent.futures.ThreadPoolExecutor(len(os.sched_getaffinity(0))) as pool:
         runs = {pool.submit(tried, *it): it[0] for it in sorted(by_crate.items(), key=lambda it: -len(it[1]))}
         for run in concurrent.futures.as_completed(runs):
             crate = runs[run]

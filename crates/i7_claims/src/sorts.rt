@@ -109,7 +109,6 @@ pub fn built_in_kinds(alloc: Global) -> Result<Strings, AllocError>
 }
 
 /// The first names of the built-in either-or properties.
-#[tactic(auto, unfolding(crate::specs::Sorts::built_in_either_ors))]
 fn built_in_either_ors(alloc: Global) -> Result<Strings, AllocError>
     ensures { IfOk result (λ names. names ≡ built_in_either_ors) }
 {

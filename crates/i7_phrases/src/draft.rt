@@ -67,15 +67,24 @@ fn with_piece(draft: Draft, piece: Piece) -> Result<Draft, AllocError>
             parts.push(Said::Plain(piece))?;
             Ok(Draft::Outside(parts))
         }
-        Draft::Then(parts, condition, mut pieces) => {
-            pieces.push(piece)?;
-            Ok(Draft::Then(parts, condition, pieces))
+        Draft::Then(parts, condition, mut pieces) => match pieces.push(piece) {
+            Ok(()) => Ok(Draft::Then(parts, condition, pieces)),
+            Err(refused) => {
+                drop(condition);
+                Err(refused.into())
+            }
+        },
+        Draft::Else(parts, condition, pieces, mut others) => match others.push(piece) {
+            Ok(()) => Ok(Draft::Else(parts, condition, pieces, others)),
+            Err(refused) => {
+                drop(condition);
+                Err(refused.into())
+            }
+        },
+        Draft::Over(place) => {
+            drop(piece);
+            Ok(Draft::Over(place))
         }
-        Draft::Else(parts, condition, pieces, mut others) => {
-            others.push(piece)?;
-            Ok(Draft::Else(parts, condition, pieces, others))
-        }
-        Draft::Over(place) => Ok(Draft::Over(place)),
     }
 }
 
@@ -109,7 +118,11 @@ fn opened_over(found: Found<Condition>) -> Option<Draft>
     ensures { next_of result ≡ opened_over (found_condition found) }
 {
     match found {
-        Found::Read(_) | Found::TooMany => Some(Draft::Over(Place::Then)),
+        Found::Read(condition) => {
+            drop(condition);
+            Some(Draft::Over(Place::Then))
+        }
+        Found::TooMany => Some(Draft::Over(Place::Then)),
         Found::Unread => None,
     }
 }
@@ -140,7 +153,11 @@ fn with_otherwise(alloc: Global, draft: Draft) -> Option<Draft>
             Place::Then => Some(Draft::Over(Place::Else)),
             Place::Outside | Place::Else => None,
         },
-        Draft::Outside(_) | Draft::Else(_, _, _, _) => None,
+        Draft::Else(_, condition, _, _) => {
+            drop(condition);
+            None
+        }
+        Draft::Outside(_) => None,
     }
 }
 
@@ -201,6 +218,13 @@ pub fn ended(draft: Draft) -> Found<Text>
             Place::Outside => Found::TooMany,
             Place::Then | Place::Else => Found::Unread,
         },
-        Draft::Then(_, _, _) | Draft::Else(_, _, _, _) => Found::Unread,
+        Draft::Then(_, condition, _) => {
+            drop(condition);
+            Found::Unread
+        }
+        Draft::Else(_, condition, _, _) => {
+            drop(condition);
+            Found::Unread
+        }
     }
 }

@@ -58,7 +58,10 @@ fn with_codes(
             tables.codes = Table::new(codes);
             Ok(tables)
         }
-        Err(fault) => Err(fault),
+        Err(fault) => {
+            drop(tables);
+            Err(fault)
+        }
     }
 }
 

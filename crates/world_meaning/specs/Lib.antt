@@ -16,3 +16,4 @@ pub mod Standing
 pub mod Tale
 pub mod Texts
 pub mod WellMade
+pub mod WrittenTables

@@ -23,6 +23,7 @@ mod sight_laws;
 mod sorts;
 mod spelling;
 pub mod standard_properties;
+mod table_laws;
 mod tale;
 mod text;
 
@@ -51,5 +52,6 @@ pub use sight_laws::{
 };
 pub use sorts::{Sorts, are_well_placed, is_at, sorts_of};
 pub use spelling::{is_spelled, lowered};
+pub use table_laws::{directions_are_as_written, kinds_are_as_written, properties_are_as_written};
 pub use tale::{Object, Tale};
 pub use text::{MOST_BYTES, TextBytes};
