@@ -219,7 +219,7 @@ def try_all(edits):
             crate = runs[run]
             found, seconds[crate] = run.result()
             wrong.update(found)
-            print(f"wrong bodies of {crate}: {len(by_crate[crate]) - len(found)} refused, {len(found)} not; {seconds[crate]:.0f} s of a processor")
+            print(f"wrong bodies of {crate}: {len(by_crate[crate]) - len(found)} refused, {len(found)} not; {seconds[crate]:.0f} s of a processor", flush=True)
             for name, why in sorted(found.items()):
                 print(f"  {name}: {why}", flush=True)
     return wrong, seconds
