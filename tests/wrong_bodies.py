@@ -34,9 +34,9 @@ class Edit:
         for line in path.read_text().splitlines():
             key, _, value = line.partition(":")
             said[key].append(value.removeprefix(" "))
+        self.is_whole = set(said) == {"proof", "file", "old", "new"} and len(said["old"]) == len(said["new"])
         self.proof, self.file = "".join(said["proof"]), "".join(said["file"])
         self.pairs = list(zip(said["old"], said["new"]))
-        self.is_whole = set(said) == {"proof", "file", "old", "new"} and len(said["old"]) == len(said["new"])
 
     def text(self):
         file = kit.top / "crates" / self.crate / self.file
