@@ -104,17 +104,17 @@ def stands_proved(verdict, function):
     return verdict == "no holes" or verdict.startswith("depends on a hole in ") and own not in verdict
 
 
-def lacks_own_goal(verdict, function):
-    """Whether a goal of the function's own is not proved: one that the search left, or one whose answer is refused. The goals of a function
-    that stands in a cycle of calls begin with its name, and stand with the cycle's."""
+def lacks_own_goal(verdict, function, crate):
+    """Whether a goal of the function's own is not proved: one that the search left, or one whose answer is refused, or a lemma that it cites.
+    The goals of a function that stands in a cycle of calls begin with its name, and stand with the cycle's."""
     path, name = function.replace("::", "/"), function.rpartition("::")[2]
-    left = r"no proof: expected answers in \./proofs/(\S+)/Answers\.antt; `search` did not prove (.*)"
-    refused = r"not proved; it stands on `Rattle\.\w+\.proofs\.(\S+)\.Answers\.(.*)"
-    found = re.match(left, verdict) or re.match(refused, verdict)
-    if not found:
-        return False
-    own, goals = found[1].replace(".", "/"), found[2]
-    return own == path or own.rpartition("/")[2].startswith("+") and f"{name}-" in goals
+    left = re.match(r"no proof: expected answers in \./proofs/(\S+)/Answers\.antt; `search` did not prove (.*)", verdict)
+    refused = re.match(r"not proved; it stands on `Rattle\.\w+\.proofs\.(\S+)\.Answers\.(.*)", verdict)
+    lemma = re.match(r"not proved; it stands on `Rattle\.\w+\.proofs\.([\w.]+)\.[\w-]+`, which antt refuses", verdict)
+    if left or refused:
+        own, goals = (left or refused)[1].replace(".", "/"), (left or refused)[2]
+        return own == path or own.rpartition("/")[2].startswith("+") and f"{name}-" in goals
+    return bool(lemma) and (kit.top / "crates" / crate / "proofs" / f"{lemma[1].replace('.', '/')}.antt").is_file()
 
 
 def unread(said, function):
@@ -138,7 +138,7 @@ def refused(said, edit):
         return f"BAD EDIT, {edit.proof} was not tried: {first_error(said)}"
     if stands_proved(verdict, edit.proof):
         return f"NOT REFUSED: {edit.proof} is still proved"
-    if not lacks_own_goal(verdict, edit.proof) or unread(said, edit.proof):
+    if not lacks_own_goal(verdict, edit.proof, edit.crate) or unread(said, edit.proof):
         return f"BAD EDIT, no goal of {edit.proof} is open: {verdict[:200]}; {unread(said, edit.proof) or first_error(said)}"
     return None
 
