@@ -36,7 +36,7 @@ fn file<'a>(alloc: Global, name: &'a str, help: &'a str) -> Arg<'a> {
 }
 
 /// A form that plays a file, with commands from a file or from standard input, and may echo them.
-fn playing<'a>(
+fn with_commands<'a>(
     command: Command<'a>,
     alloc: Global,
     file: Arg<'a>,
@@ -93,8 +93,8 @@ fn forms<'a>(alloc: Global) -> Result<Command<'a>, AllocError> {
         .after_help("Example: i7story run stories/two-rooms.i7, and then type: look")
         .subcommand_required(true)
         .subcommand(compiling(alloc)?)?
-        .subcommand(playing(play, alloc, file(alloc, "STORY", story))?)?
-        .subcommand(playing(run, alloc, file(alloc, "SOURCE", source))?)
+        .subcommand(with_commands(play, alloc, file(alloc, "STORY", story))?)?
+        .subcommand(with_commands(run, alloc, file(alloc, "SOURCE", source))?)
 }
 
 /// How the words of a form tell to play.
