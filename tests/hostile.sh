@@ -3,6 +3,7 @@
 # says, and those of few sentences, phrases, pieces of texts and words of rules and commands take at most 40 bytes of memory for each of
 # theirs. And stories whose rules and codes are hard on a loader: each plays or is refused within a second, as the first part of its name
 # says. And lines of as many commands as there may be, and of commands for as many things: each is played within a second.
+# A program that is built without proofs is slower: I7STORY_SECONDS says how many seconds each may take, where it isn't one.
 # Use: tests/hostile.sh PROGRAM
 set -u
 program=$(realpath "$1")
@@ -295,7 +296,7 @@ for source in *.i7; do
     *_actions_in_places.i7 | *_actions_many.i7 | *_actions_of_*.i7 | *_actions_tried.i7) limit=unlimited ;;
     *_understand_unknown.i7 | *_understand_texts_too_many.i7 | *_understand_long*_text.i7 | *_understand_meaning.i7) limit=unlimited ;;
   esac
-  (ulimit -v "$limit"; exec timeout 1 "$program" compile "$source" story) 2>err </dev/null
+  (ulimit -v "$limit"; exec timeout "${I7STORY_SECONDS:-1}" "$program" compile "$source" story) 2>err </dev/null
   status=$?
   case $source in
     compiles_*) [ $status = 0 ] && [ ! -s err ] ;;
@@ -309,7 +310,7 @@ for source in *.i7; do
   fi
 done
 for story in *.story; do
-  echo look | timeout 1 "$program" play "$story" >out 2>err
+  echo look | timeout "${I7STORY_SECONDS:-1}" "$program" play "$story" >out 2>err
   status=$?
   case $story in
     plays_*) [ $status = 0 ] && [ ! -s err ] && cmp -s out "${story%.story}.want" ;;
@@ -323,7 +324,7 @@ for story in *.story; do
   fi
 done
 "$program" compile many_commands.source many_commands || exit 1
-timeout 1 "$program" play many_commands <many_commands.typed >out 2>err
+timeout "${I7STORY_SECONDS:-1}" "$program" play many_commands <many_commands.typed >out 2>err
 if [ $? = 0 ] && [ ! -s err ] && cmp -s out many_commands.want; then
   passed=$((passed + 1))
 else

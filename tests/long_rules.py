@@ -11,6 +11,8 @@ from row_files import report
 
 calls = calls_of("rules")
 LONGEST = 262144
+# A program that is built without proofs is slower.
+SECONDS = int(os.environ.get("I7STORY_SECONDS", 1))
 PLAIN = "The Hall is a room. The box is an open container in the Hall. The score is a number that varies."
 # More than eight `from`s within one another, or more than 65,535 bytes of code.
 TOO_MANY = "refused\t3: C12 TooMany"
@@ -44,7 +46,7 @@ def answer(rule):
         file.write(f"{PLAIN}\n\n{rule}\x1e")
         file.flush()
         try:
-            done = subprocess.run([*calls, "bodies", file.name], capture_output=True, text=True, check=True, timeout=1)
+            done = subprocess.run([*calls, "bodies", file.name], capture_output=True, text=True, check=True, timeout=SECONDS)
         except subprocess.TimeoutExpired:
             return "more than a second"
     return done.stdout.removesuffix("\n")
