@@ -3,6 +3,7 @@
 second.
 
 Use: tests/long_rules.py PROGRAM    (the program of `i7story`; tests/programs.py says where that of `calls` stands)"""
+import os
 import subprocess
 import tempfile
 
