@@ -12,7 +12,6 @@ mod no_action;
 mod printing;
 mod readings;
 mod rules;
-mod stored;
 mod stories;
 mod worlds;
 

@@ -14,7 +14,6 @@ mod words;
 
 use crate::asked::not_asked;
 use crate::printing::print_each;
-use crate::stored::{Play, play_by_standard_rules};
 use calls::called;
 use row::row_told;
 use sample_stories::FURNISHED;
@@ -71,29 +70,16 @@ fn print_rows(
     })
 }
 
-/// The story and the calls that are asked for.
-#[derive(Clone, Copy)]
-struct WorldCalls<'a> {
-    rt: &'a HostRuntime,
-    story: &'a str,
-    words: &'a [String],
-}
-
-impl Play for WorldCalls<'_> {
-    type Told = io::Result<()>;
-
-    /// Makes the calls of words, and behind `--rows` those of a file.
-    fn play(self, rules: HostTable) -> io::Result<()> {
-        let rt = self.rt;
-        let story = Rc::new(rt.alloc(), story_of(rt, self.story)?)?;
-        let world = World::start(rt.alloc(), &story)?;
-        match self.words {
-            [calls @ .., flag, file] if flag.as_str() == "--rows" => {
-                print_calls(rt, &story, &world, calls)?;
-                print_rows(rt, &story, &rules, file.as_str())
-            }
-            calls => print_calls(rt, &story, &world, calls),
+/// Makes the calls of words, and behind `--rows` those of a file.
+fn print_asked(rt: &HostRuntime, story: &Rc<Story>, words: &[String]) -> io::Result<()> {
+    let world = World::start(rt.alloc(), story)?;
+    match words {
+        [calls @ .., flag, file] if flag.as_str() == "--rows" => {
+            print_calls(rt, story, &world, calls)?;
+            let rules = HostTable::standard(rt.alloc())?;
+            print_rows(rt, story, &rules, file.as_str())
         }
+        calls => print_calls(rt, story, &world, calls),
     }
 }
 
@@ -102,6 +88,6 @@ pub fn call(rt: &HostRuntime, words: &[String]) -> io::Result<()> {
     let [story, words @ ..] = words else {
         return Err(not_asked());
     };
-    let story = story.as_str();
-    play_by_standard_rules(rt.alloc(), WorldCalls { rt, story, words })?
+    let story = Rc::new(rt.alloc(), story_of(rt, story.as_str())?)?;
+    print_asked(rt, &story, words)
 }

@@ -1,20 +1,15 @@
 //! What the program does with its files and streams.
-ghost use Rattle.std.specs.Prelude.{◌≡◌, ◌≤◌, false, IfOk, true};
-ghost use Rattle.standard_rules.specs.Answers.{HasEffect};
-ghost use Rattle.standard_rules.specs.Hosts.{are_there};
+ghost use Rattle.std.specs.Prelude.{◌≡◌, false, IfOk};
 ghost use Rattle.story_player.specs.Watches.{watched_failed};
 
 use crate::command::{Order, Playing, faulty};
 use crate::saving::{is_same_file, save};
-use play_meaning::ActionNow;
 use source_player::{ProgramFault, SourceRunFault, run_source, run_story};
-use standard_rules::{HostAnswer, HostCall, HostRule, HostTable, standard};
-use std::alloc::{AllocError, Global};
+use standard_rules::HostTable;
 use std::fs::{self, File};
 use std::io::{self, BufReader, ErrorKind, Read};
 use story_file::compile;
 use story_player::Watched;
-use world_store::World;
 
 /// The path that is standard input where a file is read, and what it leads to.
 const INPUT: &str = "-";
@@ -149,7 +144,6 @@ fn commands_file<'a>(
 }
 
 /// Plays a file over its commands and the standard output, each stored rule being the standard one of its number.
-#[tactic(auto, unfolding(standard_rules::specs::Answers::HasEffect))]
 fn play_file<'a>(
     rt: &HostRuntime,
     path: &'a str,
@@ -163,22 +157,7 @@ fn play_file<'a>(
         bytes: bytes_of(rt, path)?,
         transcript: playing.transcript,
     };
-    let mut hosts = HostTable::new(rt.alloc());
-    for id in 1..62u8 {
-        let call: HostCall = match Box::new(
-            rt.alloc(),
-            move |alloc: Global, world: &World, now: &ActionNow| -> Result<HostAnswer, AllocError>
-                requires { (1 ≤ id) × (id ≤ 61) × (are_there world.now now.now ≡ true) }
-                ensures { IfOk result (λ answer. HasEffect id world.now now.now answer) }
-            { standard(alloc, id, world, now) },
-        ) {
-            Ok(call) => call,
-            Err(_) => return Err(ProgramFault::Memory),
-        };
-        if hosts.add(HostRule::new(id, call)).is_err() {
-            return Err(ProgramFault::Memory);
-        }
-    }
+    let hosts = HostTable::standard(rt.alloc()).map_err(|_| ProgramFault::Memory)?;
     match file {
         Some(file) => play(rt, &played, hosts, file),
         None => play(rt, &played, hosts, rt.stdin()),

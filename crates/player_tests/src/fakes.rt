@@ -1,6 +1,6 @@
 //! Stories at their beginning, and readers and writers that fail where they are told.
-use crate::stored::standard_table;
 use sample_stories::TWO_ROOMS;
+use standard_rules::HostTable;
 use std::alloc::Global;
 use std::io::{self, Error, ErrorKind, Read, Write};
 use std::test::Fail;
@@ -11,7 +11,7 @@ use story_player::Session;
 pub fn session_of(alloc: Global, source: &[u8]) -> Result<Session, Fail> {
     let bytes = compile(alloc, source)?;
     let story = load(alloc, bytes.as_slice())?;
-    Ok(Session::start(alloc, story, standard_table(alloc)?)?)
+    Ok(Session::start(alloc, story, HostTable::standard(alloc)?)?)
 }
 
 /// The two-room story at its beginning.

@@ -8,8 +8,6 @@ mod fakes;
 #[cfg(test)]
 mod lines;
 #[cfg(test)]
-mod stored;
-#[cfg(test)]
 mod streams;
 #[cfg(test)]
 mod watches;

@@ -1,8 +1,8 @@
 //! Sessions over streams that fail, that never end or that move a byte at a time.
 use crate::fakes::{Commands, Repeated, Transcript, WhenFull, two_rooms};
-use crate::stored::standard_table;
 use sample_stories::TWO_ROOMS;
 use source_player::run_source;
+use standard_rules::HostTable;
 use std::alloc::Global;
 use std::io::{BufReader, Read};
 use std::test::Fail;
@@ -138,7 +138,7 @@ fn the_size_of_the_pieces_is_no_matter(rt: HostRuntime) -> Result<(), Fail> {
         let ending = run_source(
             alloc,
             TWO_ROOMS,
-            standard_table(alloc)?,
+            HostTable::standard(alloc)?,
             &mut commands,
             &mut transcript,
             true,

@@ -5,5 +5,3 @@
 mod plays;
 #[cfg(test)]
 mod reports;
-#[cfg(test)]
-mod stored;

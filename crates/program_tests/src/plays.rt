@@ -1,7 +1,7 @@
 //! Whole plays: of a source and of a story file, and what is played at a limit and one past it.
-use crate::stored::standard_table;
 use sample_stories::TWO_ROOMS;
 use source_player::{SourceRunFault, play_bytes, run_story};
+use standard_rules::HostTable;
 use std::alloc::{AllocError, Global};
 use std::test::Fail;
 use story_file::{LoadFault, compile};
@@ -11,11 +11,11 @@ use world_meaning::{Ending, Fault, FaultCode};
 #[test]
 fn a_source_is_played_over_bytes(rt: HostRuntime) -> Result<(), Fail> {
     let alloc = rt.alloc();
-    let play = play_bytes(alloc, TWO_ROOMS, standard_table(alloc)?, b"n\nq\nx\n", true)?;
+    let play = play_bytes(alloc, TWO_ROOMS, HostTable::standard(alloc)?, b"n\nq\nx\n", true)?;
     assert_eq!(rt; play.ending, Ending::Quit);
     let transcript = b"Hall\nA bare hall.\n\n>n\nGarden\n\n>q\n";
     assert_eq!(rt; play.transcript.as_slice(), transcript.as_slice());
-    let refused = play_bytes(alloc, b"Hello.", standard_table(alloc)?, b"", false);
+    let refused = play_bytes(alloc, b"Hello.", HostTable::standard(alloc)?, b"", false);
     let fault = Fault {
         code: FaultCode::NotUnderstood,
         line: 1,
@@ -33,7 +33,7 @@ fn a_story_file_is_played(rt: HostRuntime) -> Result<(), Fail> {
     let ending = run_story(
         alloc,
         story.as_slice(),
-        standard_table(alloc)?,
+        HostTable::standard(alloc)?,
         &mut commands,
         &mut transcript,
         false,
@@ -46,7 +46,7 @@ fn a_story_file_is_played(rt: HostRuntime) -> Result<(), Fail> {
     let fault = run_story(
         alloc,
         b"I7S",
-        standard_table(alloc)?,
+        HostTable::standard(alloc)?,
         &mut nothing,
         &mut unwritten,
         false,
@@ -88,7 +88,7 @@ fn long_texts_of_rules_are_said_up_to_their_limit(rt: HostRuntime) -> Result<(),
         (65_535, 65_535, 131_093, Ending::Story),
     ] {
         let source = talkative(alloc, said, ending)?;
-        let hosts = standard_table(alloc)?;
+        let hosts = HostTable::standard(alloc)?;
         let play = play_bytes(alloc, source.as_slice(), hosts, b"look\n", false)?;
         assert_eq!(rt; play.transcript.as_slice().len(), whole, "{said} {ending}");
         assert_eq!(rt; play.ending, ends);
@@ -113,7 +113,7 @@ fn source_of(alloc: Global, name: usize, text: usize) -> Result<Vec<u8>, AllocEr
 /// How many bytes the opening of such a source has, or its refusal.
 fn opening_of(alloc: Global, name: usize, text: usize) -> Result<Result<usize, Fault>, Fail> {
     let source = source_of(alloc, name, text)?;
-    match play_bytes(alloc, source.as_slice(), standard_table(alloc)?, b"", false) {
+    match play_bytes(alloc, source.as_slice(), HostTable::standard(alloc)?, b"", false) {
         Ok(play) => Ok(Ok(play.transcript.as_slice().len())),
         Err(SourceRunFault::Source(fault)) => Ok(Err(fault)),
         Err(fault) => Err(Fail::from(fault)),

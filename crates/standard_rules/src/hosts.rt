@@ -1,10 +1,11 @@
-//! The stored rules: functions that are handed in, each of which does what the standard rule of its number does.
+//! The stored rules: of each number the standard function, or one that is handed in and does what the standard rule does.
 ghost use Rattle.std.specs.Prelude.{◌≡◌, ◌+◌, ◌≤◌, ◌<◌, ◌==◌, ◌∷◌, ◌++◌, [], IfErr, IfOk, OnErr, OnOk, Some, length, slice_get, ◌-◌, true};
 ghost use Rattle.std.specs.Result.{ForOk};
 ghost use Rattle.standard_rules.specs.Answers.{DoesRule, HasEffect};
 ghost use Rattle.standard_rules.specs.Hosts.{IsRefused, are_numbered, are_there};
 
 use crate::answer::HostAnswer;
+use crate::by_number::standard;
 use crate::host_fault::HostFault;
 use play_meaning::ActionNow;
 use std::alloc::{AllocError, Global};
@@ -64,16 +65,55 @@ impl HostRule {
     }
 }
 
+/// The standard function of the rule of this number.
+#[derive(Clone, Copy, Debug, Drop)]
+pub struct StandardRule {
+    id: u8,
+    ghost low: { 1 ≤ id },
+    ghost high: { id ≤ 61 },
+}
+
+/// What answers for a rule of the table.
+#[derive(Drop)]
+pub enum StoredRule {
+    /// The standard function.
+    Standard(StandardRule),
+    /// A function that was handed in.
+    Own(HostRule),
+}
+
+impl StoredRule {
+    ghost use Rattle.standard_rules.specs.HostTables.{number_of};
+
+    /// What the function answers.
+    #[tactic(auto, unfolding(crate::specs::Answers::HasEffect))]
+    fn call(
+        &self,
+        alloc: Global,
+        world: &World,
+        now: &ActionNow,
+    ) -> Result<HostAnswer, AllocError>
+        requires { are_there world.now now.now ≡ true }
+        ensures effect { IfOk result (λ answer. HasEffect (number_of self.now) world.now now.now answer) }
+        ensures own { (rule : _) → self.now ≡ Own rule → HostCall.post rule.call alloc world.entry now.entry result }
+    {
+        match self {
+            StoredRule::Standard(rule) => standard(alloc, rule.id, world, now),
+            StoredRule::Own(rule) => rule.call(alloc, world, now),
+        }
+    }
+}
+
 /// The rules of a story's table, in the order of their numbers.
 #[derive(Drop)]
 pub struct HostTable {
-    rules: Vec<HostRule>,
+    rules: Vec<StoredRule>,
     ghost short: { length rules.items ≤ 61 },
-    ghost numbered: { are_numbered (λ r. r.id) 1 rules.items ≡ true },
+    ghost numbered: { are_numbered number_of 1 rules.items ≡ true },
 }
 
 impl HostTable {
-    ghost use Rattle.standard_rules.specs.HostTables.{rule_count};
+    ghost use Rattle.standard_rules.specs.HostTables.{number_of, rule_count};
 
     /// A table without rules.
     pub fn new(alloc: Global) -> HostTable
@@ -84,15 +124,42 @@ impl HostTable {
         }
     }
 
+    /// The table of all sixty-one rules, each the standard one of its number.
+    ///
+    /// # Errors
+    ///
+    /// Want of memory alone.
+    pub fn standard(alloc: Global) -> Result<HostTable, AllocError>
+        ensures whole { IfOk result (λ table. rule_count table ≡ 61) }
+    {
+        let mut table = HostTable::new(alloc);
+        for id in 1..62u8 {
+            table.push(StoredRule::Standard(StandardRule { id }))?;
+        }
+        Ok(table)
+    }
+
+    /// Puts the next rule behind the others.
+    #[tactic(auto, using(crate::proofs::Numbered::numbered_on))]
+    fn push(&mut self, rule: StoredRule) -> Result<(), AllocError>
+        requires room { rule_count self.old < 61 }
+        requires next { number_of rule ≡ rule_count self.old + 1 }
+        ensures taken { OnOk result (self.new.rules.items ≡ self.old.rules.items ++ rule ∷ []) }
+        ensures same { OnErr result (self.new.rules.items ≡ self.old.rules.items) }
+    {
+        self.rules.reserve(1)?;
+        self.rules.push_reserved(rule);
+        Ok(())
+    }
+
     /// Takes a rule behind the others, if it has the next number.
     ///
     /// # Errors
     ///
     /// Full where all sixty-one are there, else out of order where the rule hasn't the next number, else want of memory; the
     /// table stays as it was.
-    #[tactic(auto, using(crate::proofs::Numbered::numbered_on))]
     pub fn add(&mut self, rule: HostRule) -> Result<(), HostFault>
-        ensures taken { OnOk result (self.new.rules.items ≡ self.old.rules.items ++ rule ∷ []) }
+        ensures taken { OnOk result (self.new.rules.items ≡ self.old.rules.items ++ Own rule ∷ []) }
         ensures fits { OnOk result ((rule_count self.old < 61) × (rule.id ≡ rule_count self.old + 1)) }
         ensures refused { IfErr result (IsRefused (rule_count self.old) rule.id) }
         ensures same { OnErr result (self.new.rules.items ≡ self.old.rules.items) }
@@ -104,11 +171,10 @@ impl HostTable {
         if usize::from(rule.id) != count + 1 {
             return Err(HostFault::OutOfOrder);
         }
-        if self.rules.reserve(1).is_err() {
-            return Err(HostFault::Memory);
+        match self.push(StoredRule::Own(rule)) {
+            Ok(()) => Ok(()),
+            Err(_) => Err(HostFault::Memory),
         }
-        self.rules.push_reserved(rule);
-        Ok(())
     }
 
     /// Whether all the rules are there.
@@ -118,7 +184,7 @@ impl HostTable {
         self.rules.len() == RULES
     }
 
-    /// What the stored function of a rule answers.
+    /// What the function of a rule answers, the stored one where one was handed in.
     ///
     /// # Errors
     ///
@@ -134,7 +200,7 @@ impl HostTable {
         requires there { id ≤ rule_count self.now }
         requires numbers { are_there world.now now.now ≡ true }
         ensures effect { IfOk result (λ answer. HasEffect id world.now now.now answer) }
-        ensures stored { (r : _) → slice_get self.now.rules.items (id - 1) ≡ Some r → HostCall.post r.call alloc world.entry now.entry result }
+        ensures stored { (rule : _) → slice_get self.now.rules.items (id - 1) ≡ Some (Own rule) → HostCall.post rule.call alloc world.entry now.entry result }
     {
         self.rules[usize::from(id) - 1].call(alloc, world, now)
     }

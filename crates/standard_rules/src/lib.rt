@@ -26,7 +26,7 @@ pub use by_number::standard;
 pub use examining::{rule_5, rule_6, rule_7, rule_8};
 pub use going::{rule_39, rule_40, rule_41, rule_42};
 pub use host_fault::HostFault;
-pub use hosts::{HostCall, HostRule, HostTable};
+pub use hosts::{HostCall, HostRule, HostTable, StandardRule, StoredRule};
 pub use inventory::{rule_50, rule_51, rule_52, rule_53};
 pub use looking::{rule_1, rule_2, rule_3, rule_4};
 pub use opening::{rule_31, rule_32, rule_33, rule_34, rule_35, rule_36, rule_37, rule_38};

@@ -42,14 +42,14 @@ fn push_parted(text: &mut SmallVec<u8, LINE_ROOM>, more: &[u8]) -> Result<(), Al
 }
 
 impl Model for LineText {
-    ghost use Rattle.story_player.specs.LineTexts.{LineText as Told, room_for};
+    ghost use Rattle.story_player.specs.LineTexts.{LineText as Told, most_commands, room_for};
     ghost use Rattle.std.specs.Prelude.{◌≤◌, ◌+◌, length};
 
     ghost Value = { Told };
 
     ghost view = { λ line. record { said = line.text.items; left = line.left } };
 
-    ghost invariant = { λ line. length line.text.items + room_for line.left ≤ line.text.capacity };
+    ghost invariant = { λ line. (length line.text.items + room_for line.left ≤ line.text.capacity) × (room_for most_commands ≤ line.text.capacity) };
 }
 
 impl LineText {
@@ -61,6 +61,14 @@ impl LineText {
             text: SmallVec::new(alloc),
             left: MOST_COMMANDS,
         }
+    }
+
+    /// Nothing said any more; the room stays.
+    pub(crate) fn clear(&mut self)
+        ensures { self.new ≡ record { said = []; left = most_commands } }
+    {
+        self.text.clear();
+        self.left = MOST_COMMANDS;
     }
 
     /// Adds a text of the player's own. Takes no memory.

@@ -12,8 +12,9 @@ ghost use Rattle.story_player.specs.Typed.{flushed, nothing_typed, typed_with};
 ghost use Rattle.story_player.specs.Watches.{watched_failed, watched_inner};
 
 use crate::fault::RunFault;
+use crate::line_text::LineText;
 use crate::typed::TypedLine;
-use crate::{Reply, Session, Watched};
+use crate::{Session, Watched};
 use std::io::{Read, Write};
 use world_meaning::Ending;
 
@@ -154,25 +155,26 @@ fn type_line<R: Read, W: Write>(
 fn tell<W: Write>(
     writer: &mut Watched<W>,
     line: &TypedLine,
-    reply: &Reply,
+    text: &[u8],
     echo: bool,
 ) -> Result<(), RunFault>
     requires writer { watched_failed writer.old ≡ false }
     ensures stands { OnOk result (watched_failed writer.new ≡ false) }
     ensures broke { IfErr result (λ fault. (fault ≡ RunFault.Write) × (watched_failed writer.new ≡ true)) }
-    ensures wrote { OnOk result (Appends (W.contents (watched_inner writer.old)) (W.contents (watched_inner writer.new)) (shown echo (line.now.kept ++ 10 ∷ []) ++ reply.now.text)) }
-    ensures front { OnErr result (WroteFront (W.contents (watched_inner writer.old)) (W.contents (watched_inner writer.new)) (shown echo (line.now.kept ++ 10 ∷ []) ++ reply.now.text)) }
+    ensures wrote { OnOk result (Appends (W.contents (watched_inner writer.old)) (W.contents (watched_inner writer.new)) (shown echo (line.now.kept ++ 10 ∷ []) ++ text.now)) }
+    ensures front { OnErr result (WroteFront (W.contents (watched_inner writer.old)) (W.contents (watched_inner writer.new)) (shown echo (line.now.kept ++ 10 ∷ []) ++ text.now)) }
 {
     echo_bytes(writer, line.kept(), echo)?;
     echo_bytes(writer, b"\n", echo)?;
-    write_whole(writer, reply.text())
+    write_whole(writer, text)
 }
 
-/// Answers a line: its echo, if commands are echoed, and the session's text.
+/// Answers a line: its echo, if commands are echoed, and the session's text, for which there is room that the line before it had.
 fn answer<W: Write>(
     writer: &mut Watched<W>,
     session: &mut Session,
     line: &TypedLine,
+    text: &mut LineText,
     echo: bool,
 ) -> Result<(), RunFault>
     requires writer { watched_failed writer.old ≡ false }
@@ -185,8 +187,8 @@ fn answer<W: Write>(
     ensures front { OnErr result (BrokeTyped (game_of session.old) echo (state_of session.old) line.now
         (W.contents (watched_inner writer.old)) (W.contents (watched_inner writer.new)) (state_of session.new)) }
 {
-    let reply = session.typed(line.typed());
-    tell(writer, line, &reply, echo)
+    let _ = session.typed(line.typed(), text);
+    tell(writer, line, text.as_slice(), echo)
 }
 
 /// Writes the prompt, unless the session is over.
@@ -210,6 +212,7 @@ fn answer_last<W: Write>(
     writer: &mut Watched<W>,
     session: &mut Session,
     line: &TypedLine,
+    text: &mut LineText,
     echo: bool,
 ) -> Result<(), RunFault>
     requires writer { watched_failed writer.old ≡ false }
@@ -225,7 +228,7 @@ fn answer_last<W: Write>(
     if line.is_empty() {
         return Ok(());
     }
-    answer(writer, session, line, echo)?;
+    answer(writer, session, line, text, echo)?;
     prompt(writer, session)
 }
 
@@ -234,6 +237,7 @@ fn play_line<R: Read, W: Write>(
     reader: &mut Watched<R>,
     writer: &mut Watched<W>,
     session: &mut Session,
+    text: &mut LineText,
     left: &mut u32,
     echo: bool,
 ) -> Result<LineEnd, RunFault>
@@ -260,9 +264,9 @@ fn play_line<R: Read, W: Write>(
     match end {
         LineEnd::Break => {
             line.drop_return();
-            answer(writer, session, &line, echo)?;
+            answer(writer, session, &line, text, echo)?;
         }
-        LineEnd::Input => answer_last(writer, session, &line, echo)?,
+        LineEnd::Input => answer_last(writer, session, &line, text, echo)?,
     }
     Ok(end)
 }
@@ -298,9 +302,10 @@ pub fn run<R: Read, W: Write>(
     ensures story { story_of session.new ≡ story_of session.old }
 {
     let mut left = MOST_INPUT;
+    let mut text = LineText::new(session.alloc);
     write_whole(writer, session.opening())?;
     while session.ending().is_none() {
-        match play_line(reader, writer, session, &mut left, echo)? {
+        match play_line(reader, writer, session, &mut text, &mut left, echo)? {
             LineEnd::Break => {}
             LineEnd::Input => return Ok(session.end_input()),
         }

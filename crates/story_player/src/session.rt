@@ -25,7 +25,7 @@ use standard_rules::HostTable;
 use std::alloc::Global;
 use std::rc::Rc;
 use story_format::Story;
-use world_meaning::Ending;
+use world_meaning::{Ending, ReplyKind};
 use world_store::{Mark, World};
 
 /// The most turns that can be taken back.
@@ -43,8 +43,8 @@ pub struct Session {
     pub(crate) kept: HeapCircularBuffer<Mark>,
     pub(crate) question: Option<Question>,
     pub(crate) ending: Option<Ending>,
-    opening: LineText,
-    ghost opened: { opening.said ≡ (opened (game_in_play story.value)).text },
+    opening: Vec<u8>,
+    ghost opened: { opening.items ≡ (opened (game_in_play story.value)).text },
     ghost whole: { rule_count hosts ≡ 61 },
     ghost indexed: { index ≡ story.value },
     ghost there: { is_some world ≡ true },
@@ -89,6 +89,10 @@ impl Session {
         };
         let told = opened(alloc, &story, &index, &hosts)?;
         let ending = ending_of(&told.world);
+        let mut opening = Vec::new(alloc);
+        if opening.extend_from_slice(told.text.as_slice()).is_err() {
+            return Err(StartFault::Memory);
+        }
         match HeapCircularBuffer::with_capacity(alloc, MOST_KEPT) {
             Ok(kept) => Ok(Session {
                 alloc,
@@ -99,7 +103,7 @@ impl Session {
                 kept,
                 question: None,
                 ending,
-                opening: told.text,
+                opening,
             }),
             Err(_) => Err(StartFault::Memory),
         }
@@ -134,15 +138,15 @@ impl Session {
         self.ending
     }
 
-    /// Answers a line as it was typed.
-    pub(crate) fn typed(&mut self, typed: Typed<'_>) -> Reply
-        ensures answer { IsAnswered (game_of self.old) (parts_told (told typed.entry)) (state_of self.old) (state_of self.new) result }
+    /// Answers a line as it was typed: the text is the answer's, whatever it was, and what is told is the answer's kind.
+    pub(crate) fn typed(&mut self, typed: Typed<'_>, text: &mut LineText) -> ReplyKind
+        ensures answer { IsAnswered (game_of self.old) (parts_told (told typed.entry)) (state_of self.old) (state_of self.new)
+            (record { text = text.new.said; kind = result }) }
         ensures game { game_of self.new ≡ game_of self.old }
         ensures story { story_of self.new ≡ story_of self.old }
     {
-        let mut text = LineText::new(self.alloc);
-        let kind = self.answer_parts(parts(typed), &mut text);
-        Reply::new(text, kind)
+        text.clear();
+        self.answer_parts(parts(typed), text)
     }
 
     /// Answers a line: its commands, one behind the other, each in the world that the one before it left. Behind what does nothing,
@@ -154,7 +158,9 @@ impl Session {
         ensures game { game_of self.new ≡ game_of self.old }
         ensures story { story_of self.new ≡ story_of self.old }
     {
-        self.typed(Typed::Whole(line))
+        let mut text = LineText::new(self.alloc);
+        let kind = self.typed(Typed::Whole(line), &mut text);
+        Reply::new(text, kind)
     }
 
     /// The commands have run out: answers how the session has ended.
