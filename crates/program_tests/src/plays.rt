@@ -11,7 +11,13 @@ use world_meaning::{Ending, Fault, FaultCode};
 #[test]
 fn a_source_is_played_over_bytes(rt: HostRuntime) -> Result<(), Fail> {
     let alloc = rt.alloc();
-    let play = play_bytes(alloc, TWO_ROOMS, HostTable::standard(alloc)?, b"n\nq\nx\n", true)?;
+    let play = play_bytes(
+        alloc,
+        TWO_ROOMS,
+        HostTable::standard(alloc)?,
+        b"n\nq\nx\n",
+        true,
+    )?;
     assert_eq!(rt; play.ending, Ending::Quit);
     let transcript = b"Hall\nA bare hall.\n\n>n\nGarden\n\n>q\n";
     assert_eq!(rt; play.transcript.as_slice(), transcript.as_slice());
@@ -113,7 +119,13 @@ fn source_of(alloc: Global, name: usize, text: usize) -> Result<Vec<u8>, AllocEr
 /// How many bytes the opening of such a source has, or its refusal.
 fn opening_of(alloc: Global, name: usize, text: usize) -> Result<Result<usize, Fault>, Fail> {
     let source = source_of(alloc, name, text)?;
-    match play_bytes(alloc, source.as_slice(), HostTable::standard(alloc)?, b"", false) {
+    match play_bytes(
+        alloc,
+        source.as_slice(),
+        HostTable::standard(alloc)?,
+        b"",
+        false,
+    ) {
         Ok(play) => Ok(Ok(play.transcript.as_slice().len())),
         Err(SourceRunFault::Source(fault)) => Ok(Err(fault)),
         Err(fault) => Err(Fail::from(fault)),

@@ -1,4 +1,5 @@
 pub mod Answers
+pub mod FaultTexts
 pub mod HostTables
 pub mod Hosts
 pub mod PropertyNames

@@ -87,12 +87,7 @@ impl StoredRule {
 
     /// What the function answers.
     #[tactic(auto, unfolding(crate::specs::Answers::HasEffect))]
-    fn call(
-        &self,
-        alloc: Global,
-        world: &World,
-        now: &ActionNow,
-    ) -> Result<HostAnswer, AllocError>
+    fn call(&self, alloc: Global, world: &World, now: &ActionNow) -> Result<HostAnswer, AllocError>
         requires { are_there world.now now.now ≡ true }
         ensures effect { IfOk result (λ answer. HasEffect (number_of self.now) world.now now.now answer) }
         ensures own { (rule : _) → self.now ≡ Own rule → HostCall.post rule.call alloc world.entry now.entry result }
