@@ -6,7 +6,7 @@ ghost use Rattle.action_stages.specs.Parts.{parts};
 use play_meaning::{ActNo, ActionNow, Flow, Outcome};
 
 /// A part of an action (*Writing with Inform*, chapter 12).
-#[derive(Clone, Copy, Debug, PartialEq, Eq)]
+#[derive(Clone, Copy, PartialEq, Eq)]
 pub enum Part {
     /// A rulebook is consulted.
     Book(u16),

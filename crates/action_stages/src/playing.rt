@@ -25,14 +25,14 @@ use story_code::{RunState, Step, Verified};
 use world_meaning::{Abandon, Needs, ObjNo};
 
 /// What a rule does: the author's code of this number, or the standard rule of this number, counted from 1.
-#[derive(Clone, Copy, Debug, PartialEq, Eq)]
+#[derive(Clone, Copy, PartialEq, Eq)]
 pub enum Does {
     Coded(u16),
     Standard(u8),
 }
 
 /// What is owed behind a standard rule's changes and its text: an action to try, and how the rule ends.
-#[derive(Clone, Copy, Debug)]
+#[derive(Clone, Copy)]
 pub struct Owed {
     pub tries: Option<ActionNow>,
     pub ends: Result<Flow, Abandon>,

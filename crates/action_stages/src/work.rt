@@ -9,7 +9,7 @@ use world_meaning::Abandon;
 
 /// Work that was done, in units: the body of a rule that begins is one, and so is a turn of a repeat. There are ten thousand
 /// at the most.
-#[derive(Debug, Drop)]
+#[derive(Drop)]
 pub struct Work {
     units: u32,
 }

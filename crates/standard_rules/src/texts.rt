@@ -11,7 +11,7 @@ use world_meaning::ObjNo;
 use world_store::World;
 
 /// An object, or nothing, and how it is named.
-#[derive(Clone, Copy, Debug)]
+#[derive(Clone, Copy)]
 pub struct Named {
     pub naming: Naming,
     pub object: Option<ObjNo>,

@@ -4,7 +4,7 @@ use play_meaning::tree::{MeantRule, MeantScene, Text};
 use rule_order::ListingSentence;
 
 /// What is said of a tale, besides its objects and what is declared.
-#[derive(Debug, Drop)]
+#[derive(Drop)]
 pub struct Contents {
     /// What descriptions say, in the order of the objects that are described.
     pub texts: Vec<Text>,

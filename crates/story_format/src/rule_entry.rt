@@ -5,7 +5,7 @@ use std::alloc::{AllocError, Global};
 use world_meaning::Listed;
 
 /// A property that an aspect asks, and which of its names.
-#[derive(Debug, Drop)]
+#[derive(Drop)]
 pub struct PropertySide {
     pub property: u8,
     /// 1 the first name, 0 the second, 3 not the first, 2 not the second.
@@ -34,7 +34,7 @@ impl Field for PropertySide {
 }
 
 /// A kind that an aspect asks, and properties of it.
-#[derive(Debug, Drop)]
+#[derive(Drop)]
 pub struct KindAspect {
     pub kind: u8,
     pub properties: Listed<PropertySide>,
@@ -62,7 +62,7 @@ impl Field for KindAspect {
 }
 
 /// What a rule asks of a noun or a place.
-#[derive(Debug, Drop)]
+#[derive(Drop)]
 pub enum Aspect {
     Anything,
     Object(u16),
@@ -130,7 +130,7 @@ impl Field for Aspect {
 }
 
 /// What a rule does.
-#[derive(Debug, Drop)]
+#[derive(Drop)]
 pub enum RuleBody {
     /// The author's code.
     Code(u16),
@@ -196,7 +196,7 @@ impl Field for RuleBody {
 }
 
 /// A rule, as table 10 has it.
-#[derive(Debug, Drop)]
+#[derive(Drop)]
 pub struct RuleEntry {
     pub book: u16,
     pub action: u8,

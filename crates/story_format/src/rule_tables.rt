@@ -7,7 +7,7 @@ use std::alloc::{AllocError, Global};
 use world_meaning::Listed;
 
 /// An action, as table 8 has it.
-#[derive(Debug, Drop)]
+#[derive(Drop)]
 pub struct ActionEntry {
     /// How many nouns it has.
     pub nouns: u8,
@@ -41,7 +41,7 @@ impl Field for ActionEntry {
 }
 
 /// A line of the grammar, as table 9 has it.
-#[derive(Debug, Drop)]
+#[derive(Drop)]
 pub struct LineEntry {
     /// The action that it asks for.
     pub action: u8,
@@ -71,7 +71,7 @@ impl Field for LineEntry {
 }
 
 /// A book, as table 11 has it.
-#[derive(Debug, Drop)]
+#[derive(Drop)]
 pub struct Book {
     /// Its rules, in order.
     pub rules: Table<u16>,
@@ -99,7 +99,7 @@ impl Field for Book {
 }
 
 /// A scene, as table 12 has it.
-#[derive(Clone, Copy, Debug)]
+#[derive(Clone, Copy)]
 pub struct SceneEntry {
     /// 1 if it may happen again.
     pub recurring: u8,
@@ -131,7 +131,7 @@ impl Field for SceneEntry {
 }
 
 /// Tables 8 to 12.
-#[derive(Debug, Drop)]
+#[derive(Drop)]
 pub struct RuleTables {
     /// Table 8.
     pub actions: Table<ActionEntry>,

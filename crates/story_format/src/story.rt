@@ -15,7 +15,7 @@ use story_code::Verified;
 use world_meaning::{Exits, KindNo, ObjNo, TextBytes, is_spelled};
 
 /// A story: its tables, and its codes verified.
-#[derive(Debug, Drop)]
+#[derive(Drop)]
 pub struct Story {
     tables: Tables,
     codes: Vec<Verified>,

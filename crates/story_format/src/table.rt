@@ -10,7 +10,7 @@ use std::marker::Model;
 use world_meaning::Listed;
 
 /// The entries of a table, in order.
-#[derive(Debug, Drop)]
+#[derive(Drop)]
 pub struct Table<F> {
     all: Vec<F>,
 }

@@ -12,7 +12,7 @@ use std::alloc::{AllocError, Global};
 use world_meaning::{Exits, Listed, TextBytes};
 
 /// An object as table 6 has it.
-#[derive(Debug, Drop)]
+#[derive(Drop)]
 pub struct Entry {
     /// The kind's number.
     pub kind: u8,
@@ -68,7 +68,7 @@ impl Field for Entry {
 }
 
 /// The tables of a story.
-#[derive(Debug, Drop)]
+#[derive(Drop)]
 pub struct Tables {
     /// Table 1: names, words and texts.
     pub strings: Table<TextBytes>,

@@ -15,7 +15,7 @@ pub const FIRST_VERSION: u16 = 1;
 pub const SECOND_VERSION: u16 = 2;
 
 /// A kind of value, as table 14 has it.
-#[derive(Debug, Drop)]
+#[derive(Drop)]
 pub struct ValueEntry {
     /// The strings that its values are named by, in order.
     pub names: Listed<u16>,
@@ -45,7 +45,7 @@ impl Field for ValueEntry {
 }
 
 /// Tables 14 and 15.
-#[derive(Debug, Drop)]
+#[derive(Drop)]
 pub struct ValueTables {
     /// Table 14, the kinds of value.
     pub kinds: Table<ValueEntry>,

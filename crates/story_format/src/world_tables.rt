@@ -76,7 +76,7 @@ impl Field for Granted {
 }
 
 /// A variable, as table 5 has it.
-#[derive(Debug, Drop)]
+#[derive(Drop)]
 pub struct Variable {
     /// What it is as the story begins, as its two's complement.
     pub start: u32,
@@ -104,7 +104,7 @@ impl Field for Variable {
 }
 
 /// Tables 2 to 5.
-#[derive(Debug, Drop)]
+#[derive(Drop)]
 pub struct WorldTables {
     /// Table 2: the kind above each kind.
     pub kinds: Table<Option<KindNo>>,

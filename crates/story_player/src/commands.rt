@@ -28,7 +28,7 @@ use world_meaning::{Abandon, Ending, ReplyKind};
 use world_store::World;
 
 /// What became of a command, and whether the commands behind it are done.
-#[derive(Clone, Copy, Debug)]
+#[derive(Clone, Copy)]
 pub(crate) struct Given {
     pub(crate) kind: ReplyKind,
     pub(crate) goes_on: bool,

@@ -25,7 +25,7 @@ const MOST_INPUT: u32 = 16_777_216;
 const PROMPT: &[u8] = b"\n>";
 
 /// How a typed line ended.
-#[derive(Clone, Copy, Debug, PartialEq, Eq)]
+#[derive(Clone, Copy, PartialEq, Eq)]
 enum LineEnd {
     /// With a line break.
     Break,

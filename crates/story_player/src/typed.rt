@@ -7,7 +7,7 @@ use std::marker::Model;
 const MOST_KEPT: usize = 256;
 
 /// A line as it was typed, in front of its line break.
-#[derive(Clone, Copy, Debug)]
+#[derive(Clone, Copy)]
 pub enum Typed<'a> {
     /// All of its bytes.
     Whole(&'a [u8]),

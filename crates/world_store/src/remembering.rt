@@ -7,7 +7,7 @@ use std::marker::Model;
 use world_meaning::{ObjNo, Place, TextBytes};
 
 /// What a change replaced.
-#[derive(Debug, Drop)]
+#[derive(Drop)]
 pub(crate) enum Was {
     /// Whether an either-or property was true of an object.
     Flag {
@@ -49,7 +49,7 @@ pub(crate) enum Was {
 }
 
 /// What each change replaced, the oldest in front.
-#[derive(Debug, Drop)]
+#[derive(Drop)]
 pub(crate) struct Log {
     entries: Vec<Was>,
 }
