@@ -2,7 +2,7 @@
 """Plays what pages show, and holds that their links lead somewhere. tests/shown_pages.py says what blocks and tables show.
 
 A link leads to a file that is there, and a heading that it names is one of that page. Each section of the pages on the language links to
-a section of docs/definitions.md, and that one back; the files that are named there are there.
+a section of docs/definitions.md, and that one back, and so does the page of each crate; the files that are named there are there.
 
 Use: tests/pages.py PROGRAM"""
 import pathlib
@@ -13,7 +13,8 @@ import shown_pages
 from row_files import report
 
 top = pathlib.Path(__file__).resolve().parents[1]
-PAGES = [top / "README.md", *sorted(top.glob("docs/**/*.md")), *sorted(top.glob("*/README.md")), *sorted(top.glob("crates/*/README.md"))]
+CRATES = sorted(top.glob("crates/*/README.md"))
+PAGES = [top / "README.md", *sorted(top.glob("docs/**/*.md")), top / "editors/README.md", *CRATES]
 LANGUAGE = [top / "docs/language.md", *sorted(top.glob("docs/language/*.md"))]
 DEFINITIONS = top / "docs/definitions.md"
 
@@ -63,8 +64,18 @@ def both_ways():
         for name in sections(page):
             told = "defined" if (page, name) in {rule for rule, _ in to} else "not defined"
             yield f"{page.relative_to(top)}, the definition of {name}", told, "defined"
-    for (page, name), (_, heading) in to ^ back:
-        yield f"{page.relative_to(top)}, {name} and the definitions {heading}", "a link one way", "links both ways"
+    for rule, defined in to | back:
+        told = "links both ways" if (rule, defined) in to & back else "a link one way"
+        yield f"{rule[0].relative_to(top)}, {rule[1]} and the definitions {defined[1]}", told, "links both ways"
+
+
+def crates_both_ways():
+    """Each page of a crate leads to the definitions whose code it is, and these back to it."""
+    to = {(page, heading) for page in CRATES for there, heading in links(page, page.read_text()) if there == DEFINITIONS and heading}
+    back = {(there, name) for name, words in sections(DEFINITIONS).items() for there, _ in links(DEFINITIONS, words) if there in CRATES}
+    for page, heading in to | back:
+        told = "links both ways" if (page, heading) in to & back else "a link one way"
+        yield f"{page.relative_to(top)} and the definitions {heading}", told, "links both ways"
 
 
 def named_files():
@@ -78,6 +89,7 @@ def answers(program):
         yield from ((f"{page.relative_to(top)}, {place}", told, wanted) for place, told, wanted in shown_pages.shown(program, page))
         yield from leads(page)
     yield from both_ways()
+    yield from crates_both_ways()
     yield from named_files()
 
 

@@ -4,8 +4,10 @@ A block ```inform7 is a source, and so is the file of a link that ends in `.i7`.
 ```transcript is what is written for the commands that stand behind its prompts, a block ```refused how it is refused, where its path is
 story.i7, and a block ```more is sentences that may stand behind it. A source is taken, but in front of ```refused.
 
-Tables speak of the source in front of them, or of that of a block ```inform7 scene, if the page has one. A row of a table that ends in a code, or in `taken`, has a sentence or phrase that is refused with that code behind that source, or taken, and one that is taken. In a table one of whose heads says `a sentence` or another of `WAYS`, what stands in that column is taken,
-each piece of it by itself, and where `prints` is a head too, it prints what stands there, a piece for each line."""
+Tables speak of the source in front of them, or of that of a block ```inform7 scene, if the page has one. A row of a table that ends in a code,
+or in `taken`, has a sentence or phrase that is refused with that code behind that source, or taken, and one that is taken. In a table one of
+whose heads is one of `WAYS`, what stands in that column is taken, each piece of it by itself. Where `prints` is a head too, it prints what stands
+there, a piece for each line, or `a blank line`; where `is refused` is one, it is refused with that code."""
 import pathlib
 import re
 import subprocess
@@ -79,18 +81,22 @@ def tried(program, source, way, piece, prints):
     return (answered(program, whole, "jump"), "Yes.") if way == "a condition" else (verdict(program, whole), "taken")
 
 
+def piece_rows(program, source, way, row):
+    """What each piece of a cell comes to, of a row told by the heads of its columns."""
+    prints = re.findall(r"`([^`]*)`|a blank line", row["prints"]) if "prints" in row else None
+    for piece in re.findall(r"`([^`]*)`", row[way]):
+        if "is refused" in row:
+            yield piece, verdict(program, f"{source}\n{WAYS[way].format(piece)}\n"), re.match(r"\w+", row["is refused"])[0]
+        else:
+            yield (piece, *tried(program, source, way, piece, prints))
+
+
 def column_rows(program, source, table):
     """The pieces of the columns whose heads are ways."""
     head, _, *rows = map(cells, table.splitlines())
-    for number, way in enumerate(head):
-        for row in rows if way in WAYS else []:
-            named = dict(zip(head, row))
-            prints = re.findall(r"`([^`]*)`", named["prints"]) if "prints" in named else None
-            for piece in re.findall(r"`([^`]*)`", row[number]):
-                if "is refused" in named:
-                    yield piece, verdict(program, f"{source}\n{WAYS[way].format(piece)}\n"), named["is refused"][:3].strip(":, ")
-                else:
-                    yield (piece, *tried(program, source, way, piece, prints))
+    for row in (dict(zip(head, it)) for it in rows):
+        for way in WAYS.keys() & row.keys():
+            yield from piece_rows(program, source, way, row)
 
 
 def of_block(program, source, sort, block):
