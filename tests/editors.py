@@ -99,12 +99,6 @@ def tokens(classes_of, which):
         yield f"{place}, {which}", " ".join(sorted(told)) if at >= len(front) else "no such words", wanted.decode()
 
 
-def table_column(page, head, *columns):
-    """The cells of some columns of the table of a page that begins with a head."""
-    table = (top / page).read_text().partition(f"\n{head}\n")[2].partition("\n\n")[0]
-    return [shown_pages.cells(line)[it] for line in table.splitlines()[1:] for it in columns]
-
-
 def named(cells):
     return {word.strip() for it in cells for word in it.split(",") if word.strip()}
 
@@ -115,15 +109,15 @@ def first_words(cells):
 
 def lists():
     """The lists of words that the pages on the language tell, by their classes."""
-    world, rules, phrases = (f"docs/language/{it}.md" for it in ("world", "rules", "phrases"))
-    actions = table_column(rules, "| action | its noun | its second noun | a command | prints |", 0)
+    world, rules, phrases = (top / f"docs/language/{it}.md" for it in ("world", "rules", "phrases"))
+    actions = shown_pages.table_column(rules, "| action | its noun | its second noun | a command | prints |", 0)
     return {
-        "kind": named(table_column(world, "| kind | under | what it is |", 0)),
-        "property": named(table_column(world, "| property | its opposite | of | true at first of |", 0, 1)) | {"visible", "touchable"},
-        "direction": named(table_column(world, "| direction | typed | opposite | said in a sentence |", 0)),
+        "kind": named(shown_pages.table_column(world, "| kind | under | what it is |", 0)),
+        "property": named(shown_pages.table_column(world, "| property | its opposite | of | true at first of |", 0, 1)) | {"visible", "touchable"},
+        "direction": named(shown_pages.table_column(world, "| direction | typed | opposite | said in a sentence |", 0)),
         "action": {it.split(" it")[0] for it in actions} | {"doing anything"},
-        "phrase": first_words(table_column(phrases, "| phrase | a phrase | what it does |", 1)
-                              + table_column(phrases, "| phrase | what it does |", 0)),
+        "phrase": first_words(shown_pages.table_column(phrases, "| phrase | a phrase | what it does |", 1)
+                              + shown_pages.table_column(phrases, "| phrase | what it does |", 0)),
     }
 
 

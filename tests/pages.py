@@ -2,7 +2,8 @@
 """Plays what pages show, and holds that their links lead somewhere. tests/shown_pages.py says what blocks and tables show.
 
 A link leads to a file that is there, and a heading that it names is one of that page. Each section of the pages on the language links to
-a section of docs/definitions.md, and that one back, and so does the page of each crate; the files that are named there are there.
+a section of docs/definitions.md, and that one back, and so does the page of each crate; the files that are named there are there. The tables of
+what is built in are those of the compiler.
 
 Use: tests/pages.py PROGRAM"""
 import pathlib
@@ -84,6 +85,26 @@ def named_files():
         yield f"docs/definitions.md, the file {name}", str((top / name).exists() or (top / "crates" / name).exists()), "True"
 
 
+def literals(crate, name, shape):
+    """What a shape finds in a file of a crate."""
+    return re.findall(shape, (top / "crates" / crate / "src" / name).read_text())
+
+
+def built_in():
+    """That the tables of kinds, properties, directions and actions are the compiler's."""
+    world, rules = top / "docs/language/world.md", top / "docs/language/rules.md"
+    kinds = shown_pages.table_column(world, "| kind | under | what it is |", 0)
+    properties = shown_pages.table_column(world, "| property | its opposite | of | true at first of |", 0, 1)
+    told = {word for cell in kinds + properties for word in cell.split(", ") if word}
+    yield "kinds and properties", sorted(told), sorted(literals("world_meaning", "kinds.rt", r'b"([^"]*)"'))
+    directions = shown_pages.table_column(world, "| direction | typed | opposite | said in a sentence |", 0, 1, 2)
+    ways = literals("world_meaning", "direction.rt", r'\(b"(\w+)", b"(\w+)", Direction::(\w+)\)')
+    yield "directions", [it.strip("`") for it in directions], [word.lower() for way in ways for word in way]
+    actions = shown_pages.table_column(rules, "| action | its noun | its second noun | a command | prints |", 0)
+    names = literals("i7_actions", "action.rt", r"\(&\[([^\]]*)\], NounCount")
+    yield "actions", sorted(actions), sorted(" ".join(re.findall(r'b"([^"]*)"', it)) for it in names)
+
+
 def answers(program):
     for page in PAGES:
         yield from ((f"{page.relative_to(top)}, {place}", told, wanted) for place, told, wanted in shown_pages.shown(program, page))
@@ -91,6 +112,7 @@ def answers(program):
     yield from both_ways()
     yield from crates_both_ways()
     yield from named_files()
+    yield from ((f"the compiler's {name}", str(on_page), str(in_code)) for name, on_page, in_code in built_in())
 
 
 report("pages", ((place, told.encode(), wanted.encode()) for place, told, wanted in answers(pathlib.Path(sys.argv[1]).resolve())))

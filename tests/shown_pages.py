@@ -66,6 +66,12 @@ def cells(line):
     return [it.strip() for it in line.strip().strip("|").split("|")]
 
 
+def table_column(page, head, *columns):
+    """The cells of some columns of the table of a page that begins with a head."""
+    table = page.read_text().partition(f"\n{head}\n")[2].partition("\n\n")[0]
+    return [cells(line)[it] for line in table.splitlines()[1:] for it in columns]
+
+
 def answered(program, source, command):
     """What is written for a command behind a source."""
     return ran(program, source, f"{command}\n").partition(f">{command}\n")[2].removesuffix("\n>").rstrip("\n")
