@@ -18,6 +18,7 @@ import tempfile
 import shown_pages
 import textmate
 from row_files import report, rows_of
+from shown_pages import table_column
 
 top = pathlib.Path(__file__).resolve().parents[1]
 TEXTMATE = top / "editors/vscode/syntaxes/i7story.tmLanguage.json"
@@ -110,14 +111,14 @@ def first_words(cells):
 def lists():
     """The lists of words that the pages on the language tell, by their classes."""
     world, rules, phrases = (top / f"docs/language/{it}.md" for it in ("world", "rules", "phrases"))
-    actions = shown_pages.table_column(rules, "| action | its noun | its second noun | a command | prints |", 0)
+    actions = table_column(rules, "| action | its noun | its second noun | a command | prints |", 0)
     return {
-        "kind": named(shown_pages.table_column(world, "| kind | under | what it is |", 0)),
-        "property": named(shown_pages.table_column(world, "| property | its opposite | of | true at first of |", 0, 1)) | {"visible", "touchable"},
-        "direction": named(shown_pages.table_column(world, "| direction | typed | opposite | said in a sentence |", 0)),
+        "kind": named(table_column(world, "| kind | under | what it is |", 0)),
+        "property": named(table_column(world, "| property | its opposite | of | true at first of |", 0, 1)) | {"visible", "touchable"},
+        "direction": named(table_column(world, "| direction | typed | opposite | said in a sentence |", 0)),
         "action": {it.split(" it")[0] for it in actions} | {"doing anything"},
-        "phrase": first_words(shown_pages.table_column(phrases, "| phrase | a phrase | what it does |", 1)
-                              + shown_pages.table_column(phrases, "| phrase | what it does |", 0)),
+        "phrase": first_words(
+            table_column(phrases, "| phrase | a phrase | what it does |", 1) + table_column(phrases, "| phrase | what it does |", 0)),
     }
 
 

@@ -1,13 +1,14 @@
 """What a page shows of sources and plays, each as it is and as it is shown.
 
 A block ```inform7 is a source, and so is the file of a link that ends in `.i7`. Behind it a block ```part stands in it whole, a block
-```transcript is what is written for the commands that stand behind its prompts, a block ```refused how it is refused, where its path is
-story.i7, and a block ```more is sentences that may stand behind it. A source is taken, but in front of ```refused.
+```transcript is what is written for the commands that stand behind its prompts, and a block ```refused how it is refused, where its path is
+story.i7. A source is taken, but in front of ```refused.
 
 Tables speak of the source in front of them, or of that of a block ```inform7 scene, if the page has one. A row of a table that ends in a code,
 or in `taken`, has a sentence or phrase that is refused with that code behind that source, or taken, and one that is taken. In a table one of
 whose heads is one of `WAYS`, what stands in that column is taken, each piece of it by itself. Where `prints` is a head too, it prints what stands
-there, a piece for each line, or `a blank line`; where `is refused` is one, it is refused with that code."""
+there, a piece for each line, or `a blank line`; where `is refused` is one, it is refused with that code; where `a break follows` is one, that is
+so, or not."""
 import pathlib
 import re
 import subprocess
@@ -93,6 +94,9 @@ def piece_rows(program, source, way, row):
     for piece in re.findall(r"`([^`]*)`", row[way]):
         if "is refused" in row:
             yield piece, verdict(program, f"{source}\n{WAYS[way].format(piece)}\n"), re.match(r"\w+", row["is refused"])[0]
+        elif "a break follows" in row:
+            said = answered(program, f'{source}\nInstead of jumping: say {piece}; say "Next"\n', "jump")
+            yield piece, "yes" if said.endswith("\nNext") else "no", row["a break follows"]
         else:
             yield (piece, *tried(program, source, way, piece, prints))
 
@@ -111,8 +115,6 @@ def of_block(program, source, sort, block):
         yield block[:40], played(program, source, block).rstrip("\n"), block.rstrip("\n")
     elif sort == "refused":
         yield block[:40], ran(program, source, ""), block
-    elif sort == "more":
-        yield block[:40], verdict(program, f"{source}\n{block}"), "taken"
 
 
 def shown(program, page):
