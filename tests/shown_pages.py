@@ -18,7 +18,7 @@ PIECE = re.compile(r"(?ms)^```([^\n]*)\n(.*?)^```$|\]\(([^)#:]+\.i7)\)|((?:^\|[^
 
 # What is put behind the source for a piece of a column, by the head of the column.
 WAYS = {
-    "a sentence": "{}",
+    "a sentence": "\n{}\n",
     "a head": '{}, say "Yes."',
     "a phrase": "Instead of jumping: {}.",
     "a condition": 'Instead of jumping: if {}, say "Yes."',
