@@ -37,6 +37,11 @@ GROUPS = {
     "Lines": "plain", "": "plain"}
 
 
+# Words of the grammars' lists besides those of the pages' tables, and words that stand inside phrases.
+BESIDES = {"kind": {"men", "women", "people", "something"}, "action": {"try", "silently try"}}
+INSIDE = {"finally", "saying", "running through", "when", "during"}
+
+
 def class_of_scopes(scopes):
     return next(SCOPES[it] for it in SCOPES if scopes[-1].startswith(it))
 
@@ -122,9 +127,14 @@ def lists():
     }
 
 
+def alternatives(pattern):
+    """The words of the lists in a regular expression of the TextMate grammar."""
+    return {word for it in re.findall(r"\(([a-z]+(?:[| ]+[a-z]+)+)\)", pattern) for word in it.split("|")}
+
+
 def textmate_words(repository, name):
     """The words of a list of the TextMate grammar."""
-    return {word for it in re.findall(r"\(([a-z]+(?:[| ]+[a-z]+)+)\)", repository[name]["match"]) for word in it.split("|")}
+    return alternatives(repository[name]["match"])
 
 
 def vim_words(group):
@@ -136,14 +146,16 @@ def vim_words(group):
 
 def listed(repository):
     """The words of the lists of both grammars, and those of the pages."""
-    plurals, behind_phrases = {"men", "women", "people", "something"}, {"finally", "saying", "running through", "when", "during"}
     for name, wanted in lists().items():
         told = {"TextMate": textmate_words(repository, name), "Vim": vim_words(name.capitalize())}
         if name == "phrase":
-            controls = {"TextMate": textmate_words(repository, "control"), "Vim": vim_words("Control") - behind_phrases}
-            told = {which: {it.split()[0] for it in words | controls[which]} for which, words in told.items()}
+            controls = {"TextMate": textmate_words(repository, "control"), "Vim": vim_words("Control")}
+            told = {which: {it.split()[0] for it in (words | controls[which]) - INSIDE} for which, words in told.items()}
         for which, words in told.items():
-            yield f"the words of {which} for {name}", str(sorted(words - plurals)), str(sorted(wanted))
+            yield f"the words of {which} for {name}", str(sorted(words - BESIDES.get(name, set()))), str(sorted(wanted))
+    for rule in ("colonRule", "commaRule"):
+        told = alternatives(repository[rule]["begin"]) & alternatives(repository["action"]["match"])
+        yield f"the actions at the beginning of {rule}", str(sorted(told)), str(sorted(lists()["action"]))
 
 
 def answers(program):

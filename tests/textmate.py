@@ -5,8 +5,8 @@ read by `re`: `is_common` tells of one whether the reader of an editor, Onigurum
 import json
 import re
 
-# What `re` reads otherwise than Oniguruma, or not at all.
-APART = re.compile(r"\\[AGHKRXZhkpz]|\(\?[>i(]*\)|\(\?<[^=!]|\(\?P|[*+?}]\+|\[\[:|&&")
+# What `re` reads otherwise than Oniguruma, or one of them not at all, as a look behind at letters, which may be of any case.
+APART = re.compile(r"\\[AGHKRXZhkpz]|\(\?[>i(]*\)|\(\?<[^=!]|\(\?P|[*+?}]\+|\[\[:|&&|\(\?<[=!](?:[^)\\A-Za-z]|\\.)*[A-Za-z]")
 
 
 def is_common(pattern):
