@@ -25,7 +25,7 @@ class Grammar:
 
     def regex(self, pattern):
         if pattern not in self.compiled:
-            self.compiled[pattern] = re.compile(pattern, re.M)
+            self.compiled[pattern] = re.compile(pattern)
         return self.compiled[pattern]
 
     def rules(self, rule):
