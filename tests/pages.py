@@ -1,92 +1,118 @@
 #!/usr/bin/env python3
-"""Plays what pages show. Of each page a block ```inform7 is a source, and so is the file of a link that ends in `.i7`; behind it a block
-```part stands in it whole, a block ```transcript is what is written for the commands that stand behind its prompts, and a block ```refused
-how it is refused, where its path is story.i7. A row of a table that ends in a code, or in `taken`, has a sentence or phrase that is
-refused with that code behind the page's source, or taken, and one that is taken. What pages link to is there.
+"""Plays what pages show, and holds that their links lead somewhere. tests/shown_pages.py says what blocks and tables show.
+
+A link leads to a file that is there, and a heading that it names is one of that page. Each section of the pages on the language links to
+a section of docs/definitions.md, and that one back, and so does the page of each crate; the files that are named there are there. The tables of
+what is built in are those of the compiler.
 
 Use: tests/pages.py PROGRAM"""
 import pathlib
 import re
-import subprocess
 import sys
-import tempfile
 
+import shown_pages
 from row_files import report
 
-program = str(pathlib.Path(sys.argv[1]).resolve())
 top = pathlib.Path(__file__).resolve().parents[1]
-PAGES = [top / "README.md", *sorted(top.glob("docs/*.md")), *sorted(top.glob("crates/*/README.md"))]
+CRATES = sorted(top.glob("crates/*/README.md"))
+PAGES = [top / "README.md", *sorted(top.glob("docs/**/*.md")), top / "editors/README.md", *CRATES]
+LANGUAGE = [top / "docs/language.md", *sorted(top.glob("docs/language/*.md"))]
+DEFINITIONS = top / "docs/definitions.md"
 
 
-PIECE = re.compile(r"(?ms)^```(inform7|part|transcript|refused)\n(.*?)^```$|\]\(([^)#:]+\.i7)\)")
+def without_blocks(text):
+    return re.sub(r"(?ms)^```.*?^```$", "", text)
 
 
-def ran(source, commands):
-    """What is written for a source and these commands on both streams, its path being story.i7."""
-    with tempfile.TemporaryDirectory() as room:
-        pathlib.Path(room, "story.i7").write_text(source)
-        words = [program, "run", "story.i7", "--transcript"]
-        done = subprocess.run(words, cwd=room, input=commands.encode(), stdout=subprocess.PIPE, stderr=subprocess.STDOUT, timeout=60)
-    return done.stdout
+def slug(heading):
+    """The name by which a link reaches a heading."""
+    return re.sub(r"[^\w\- ]", "", heading.lower()).replace(" ", "-")
 
 
-def played(source, transcript):
-    """What is written for a source and the commands of a transcript."""
-    return ran(source, "".join(f"{line[1:]}\n" for line in transcript.splitlines() if len(line) > 1 and line[0] == ">"))
+def headings(page):
+    return {slug(it) for it in re.findall(r"(?m)^#+ (.*)$", without_blocks(page.read_text()))}
 
 
-def shown(page, text):
-    """What a page shows of its sources, as it is and as it is shown. The parts of a file stand in front of its link."""
-    source, parts = "", []
-    for sort, block, link in PIECE.findall(text):
-        place = f"{page.relative_to(top)}, {sort} {block[:40]!r}"
-        if link:
-            source = (page.parent / link).read_text()
-            yield from ((f"{page.relative_to(top)}, a part of {link}", part in source, True) for part in parts)
-            parts = []
-        elif sort == "inform7":
-            source = block
-        elif sort == "part":
-            parts.append(block)
-        elif sort == "transcript":
-            yield place, played(source, block).rstrip(b"\n"), block.rstrip("\n").encode()
-        else:
-            yield place, ran(source, ""), block.encode()
+def links(page, text):
+    """Each link of a text on a page, as the page and the heading that it leads to; of other sites none."""
+    for path, heading in re.findall(r"\]\(([^)#:\s]*)(?:#([^)\s]*))?\)", without_blocks(text)):
+        yield (page.parent / path).resolve() if path else page, heading
 
 
-def judged(source, words):
-    """The code with which words behind a source are refused, or `taken`. Words with a small letter are a phrase."""
-    sentence = f"Instead of jumping: {words}{'' if words.endswith(chr(34)) else '.'}" if words[0].islower() else words
-    said = ran(f"{source}\n{sentence}\n", "")
-    found = re.match(rb"story\.i7:\d+: (C\d+) ", said)
-    return found[1].decode() if found else "taken"
+def leads(page):
+    """Each link of a page, and that what it names is there."""
+    for there, heading in links(page, page.read_text()):
+        is_there = there.exists() and (not heading or heading in headings(there))
+        yield f"{page.relative_to(top)}, the link to {there}#{heading}", str(is_there), "True"
 
 
-def rows_of(page, text):
-    """What each row of the page's tables says of its words, and what is so."""
-    source = "".join(re.findall(r"(?ms)^```inform7\n(.*?)^```$", text)[:1])
-    for left, right, code in re.findall(r"(?m)^\| `([^|]*)` \| `([^|]*)` \| (C\d+|taken) \|", text):
-        yield f"{page.relative_to(top)}, {left}", judged(source, left).encode(), code.encode()
-        yield f"{page.relative_to(top)}, {right}", judged(source, right).encode(), b"taken"
+def sections(page):
+    """The sections of a page, each with its name and its words."""
+    return {slug(name): words for name, words in re.findall(r"(?ms)^## ([^\n]*)\n(.*?)(?=^## |\Z)", page.read_text())}
 
 
-def links_of(page, text):
-    """Each link of a page to a file, and that it is there."""
-    for link in re.findall(r"\]\(([^)#:]+)(?:#[^)]*)?\)", text):
-        yield f"{page.relative_to(top)}, the link to {link}", (page.parent / link).exists(), True
+def ways(pages, others):
+    """Which sections of some pages lead to which of others."""
+    for page in pages:
+        for name, words in sections(page).items():
+            yield from {((page, name), (there, heading)) for there, heading in links(page, words) if there in others and heading}
 
 
-def answers():
+def both_ways():
+    """Each section on the language leads to one of the definitions, and each of these that leads to one on the language is led to."""
+    to, back = set(ways(LANGUAGE, [DEFINITIONS])), {(b, a) for a, b in ways([DEFINITIONS], LANGUAGE)}
+    for page in LANGUAGE:
+        for name in sections(page):
+            told = "defined" if (page, name) in {rule for rule, _ in to} else "not defined"
+            yield f"{page.relative_to(top)}, the definition of {name}", told, "defined"
+    for rule, defined in to | back:
+        told = "links both ways" if (rule, defined) in to & back else "a link one way"
+        yield f"{rule[0].relative_to(top)}, {rule[1]} and the definitions {defined[1]}", told, "links both ways"
+
+
+def crates_both_ways():
+    """Each page of a crate leads to the definitions whose code it is, and these back to it."""
+    to = {(page, heading) for page in CRATES for there, heading in links(page, page.read_text()) if there == DEFINITIONS and heading}
+    back = {(there, name) for name, words in sections(DEFINITIONS).items() for there, _ in links(DEFINITIONS, words) if there in CRATES}
+    for page, heading in to | back:
+        told = "links both ways" if (page, heading) in to & back else "a link one way"
+        yield f"{page.relative_to(top)} and the definitions {heading}", told, "links both ways"
+
+
+def named_files():
+    """Each file of a crate that the definitions name, and that it is there."""
+    for name in sorted(set(re.findall(r"`(\w+/(?:specs|src|proofs)/[^` ]*|tests/[^` ]*|crates/[^` ]*)`", DEFINITIONS.read_text()))):
+        yield f"docs/definitions.md, the file {name}", str((top / name).exists() or (top / "crates" / name).exists()), "True"
+
+
+def literals(crate, name, shape):
+    """What a shape finds in a file of a crate."""
+    return re.findall(shape, (top / "crates" / crate / "src" / name).read_text())
+
+
+def built_in():
+    """That the tables of kinds, properties, directions and actions are the compiler's."""
+    world, rules = top / "docs/language/world.md", top / "docs/language/rules.md"
+    kinds = shown_pages.table_column(world, "| kind | under | what it is |", 0)
+    properties = shown_pages.table_column(world, "| property | its opposite | of | true at first of |", 0, 1)
+    told = {word for cell in kinds + properties for word in cell.split(", ") if word}
+    yield "kinds and properties", sorted(told), sorted(literals("world_meaning", "kinds.rt", r'b"([^"]*)"'))
+    directions = shown_pages.table_column(world, "| direction | typed | opposite | said in a sentence |", 0, 1, 2)
+    ways = literals("world_meaning", "direction.rt", r'\(b"(\w+)", b"(\w+)", Direction::(\w+)\)')
+    yield "directions", [it.strip("`") for it in directions], [word.lower() for way in ways for word in way]
+    actions = shown_pages.table_column(rules, "| action | its noun | its second noun | a command | prints |", 0)
+    names = literals("i7_actions", "action.rt", r"\(&\[([^\]]*)\], NounCount")
+    yield "actions", sorted(actions), sorted(" ".join(re.findall(r'b"([^"]*)"', it)) for it in names)
+
+
+def answers(program):
     for page in PAGES:
-        text = page.read_text()
-        yield from shown(page, text)
-        yield from rows_of(page, text)
-        yield from links_of(page, text)
+        yield from ((f"{page.relative_to(top)}, {place}", told, wanted) for place, told, wanted in shown_pages.shown(program, page))
+        yield from leads(page)
+    yield from both_ways()
+    yield from crates_both_ways()
+    yield from named_files()
+    yield from ((f"the compiler's {name}", str(on_page), str(in_code)) for name, on_page, in_code in built_in())
 
 
-def told(answer):
-    place, *values = answer
-    return place, *(str(it).encode() if isinstance(it, bool) else it for it in values)
-
-
-report("pages", map(told, answers()))
+report("pages", ((place, told.encode(), wanted.encode()) for place, told, wanted in answers(pathlib.Path(sys.argv[1]).resolve())))
