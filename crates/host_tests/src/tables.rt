@@ -41,6 +41,15 @@ fn sixty_one_rules_are_all(rt: HostRuntime) -> Result<(), Fail> {
     Ok(())
 }
 
+#[test]
+fn the_table_of_the_standard_rules_is_whole(rt: HostRuntime) -> Result<(), Fail> {
+    let mut standard = HostTable::standard(rt.alloc())?;
+    assert!(rt; standard.is_complete());
+    let last = stored(rt.alloc(), 61)?;
+    assert_eq!(rt; standard.add(last), Err(HostFault::Full));
+    Ok(())
+}
+
 /// The world with which the furnished story begins.
 fn begun(alloc: Global) -> Result<World, Fail> {
     let story = Rc::new(alloc, load(alloc, FURNISHED)?)?;
