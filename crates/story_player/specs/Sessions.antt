@@ -18,7 +18,7 @@ abbrev pub game_of : {X : _} {F : _} {g : _} → Session X F g → Game
 game_of session = game_in_play (story_of session)
 
 abbrev pub state_of : {X : _} {F : _} {g : _} → Session X F g → State
-state_of session = record { world = world_in session.world; kept = kept_in session.world session.kept.items; question = session.question; ending = session.ending }
+state_of session = record { world = world_in session.world; kept = kept_in session.world session.kept; question = session.question; ending = session.ending }
 
 -- what the parser's reading of a command means to a session
 abbrev pub meant_by : {X : _} {F : _} {g : _} → Session X F g → Read → Reading

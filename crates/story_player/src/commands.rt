@@ -148,7 +148,7 @@ impl Session {
         match self.trial(deed, text) {
             Ok(()) => {
                 if is_kept {
-                    self.kept.push_front(mark);
+                    self.kept.keep(mark);
                     return self.take_up(ReplyKind::Kept);
                 }
                 self.take_up(ReplyKind::Free)
@@ -202,7 +202,7 @@ impl Session {
         ensures story { story_of self.new ≡ story_of self.old }
     {
         self.question = None;
-        match self.kept.pop_front() {
+        match self.kept.take_back() {
             None => text.add_fixed(texts::NOTHING_TO_UNDO),
             Some(mark) => {
                 let mut world = self.world.take().unwrap();

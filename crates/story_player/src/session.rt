@@ -18,18 +18,15 @@ use crate::line_text::LineText;
 use crate::reading::parts;
 use crate::trial::opened;
 use crate::typed::Typed;
-use circular_buffer::HeapCircularBuffer;
 use command_parser::Question;
 use rule_index::Index;
 use standard_rules::HostTable;
 use std::alloc::Global;
 use std::rc::Rc;
 use story_format::Story;
+use undo_ring::Ring;
 use world_meaning::{Ending, ReplyKind};
 use world_store::{Mark, World};
-
-/// The most turns that can be taken back.
-const MOST_KEPT: usize = 8;
 
 /// A story in play: its stored rules, its world, the places of its log at which the last kept turns began, the latest in front, the
 /// question that is open, if one is, and how it ended, if it has. The world is there but while an action is done on it.
@@ -40,7 +37,7 @@ pub struct Session {
     pub(crate) hosts: HostTable,
     pub(crate) index: Index,
     pub(crate) world: Option<World>,
-    pub(crate) kept: HeapCircularBuffer<Mark>,
+    pub(crate) kept: Ring<Mark>,
     pub(crate) question: Option<Question>,
     pub(crate) ending: Option<Ending>,
     opening: Vec<u8>,
@@ -49,8 +46,7 @@ pub struct Session {
     ghost indexed: { index ≡ story.value },
     ghost there: { is_some world ≡ true },
     ghost world_story: { ForSome world (λ now. now.tables ≡ story.value) },
-    ghost marks: { ForSome world (λ now. are_marks (length now.past) kept.items ≡ true) },
-    ghost room: { kept.capacity ≡ 8 },
+    ghost marks: { ForSome world (λ now. are_marks (length now.past) kept ≡ true) },
 }
 
 /// How the session ends where the story has.
@@ -93,7 +89,7 @@ impl Session {
         if opening.extend_from_slice(told.text.as_slice()).is_err() {
             return Err(StartFault::Memory);
         }
-        match HeapCircularBuffer::with_capacity(alloc, MOST_KEPT) {
+        match Ring::new(alloc) {
             Ok(kept) => Ok(Session {
                 alloc,
                 story,

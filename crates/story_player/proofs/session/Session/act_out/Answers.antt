@@ -1,4 +1,4 @@
-use Rattle.std.proofs.Common.{◌∙◌, ap, subst, sym, take, ◌∷◌}
+use Rattle.std.proofs.Common.{◌∙◌, ap, subst, sym, take, ◌∷◌, List, ℕ}
 use Rattle.std.specs.Prelude.{None}
 use Rattle.story_format.specs.declared.tables.Tables.{Tables}
 use Rattle.story_player.specs.KeptWorlds.{kept_in, world_in}
@@ -13,11 +13,11 @@ invariant_of-self g c =
     let session = c.args.self.now in
     let behind = c.trial.new.self in
     let t = session.story.value in
-    let was = home_of t session.world session.kept.items session.there session.world_story session.marks in
+    let was = home_of t session.world session.kept session.there session.world_story session.marks in
     let is =
-    subst (λ ring. IsHome t behind.world ring.items) c.in-Ok.ensures.marks
-    (subst (λ (t : Tables). IsHome t behind.world behind.kept.items) c.in-Ok.ensures.story (home_of behind.story.value behind.world behind.kept.items behind.there behind.world_story behind.marks)) in
-    let pushed = ap (λ ring. ring.items) c.push_front.ensures.items ∙ ap (λ ring. take ring.capacity (c.mark-mark.result ∷ ring.items)) c.in-Ok.ensures.marks in
+    subst (λ (marks : List ℕ). IsHome t behind.world marks) c.in-Ok.ensures.marks
+    (subst (λ (t : Tables). IsHome t behind.world behind.kept) c.in-Ok.ensures.story (home_of behind.story.value behind.world behind.kept behind.there behind.world_story behind.marks)) in
+    let pushed = c.keep.ensures ∙ ap (λ (marks : List ℕ). take 8 (c.mark-mark.result ∷ marks)) c.in-Ok.ensures.marks in
     record {
       opened = behind.opened;
       whole = behind.whole;
@@ -25,10 +25,9 @@ invariant_of-self g c =
       there = behind.there;
       world_story = behind.world_story;
       marks =
-          are_there t behind.world c.push_front.new.self.items
-          (home_pushed t session.world behind.world session.kept.items was is c.in-Ok.ensures.behind c.here.result.now c.here.ensures session.kept.capacity c.mark-mark.result
-          c.push_front.new.self.items c.mark-mark.ensures pushed);
-      room = ap (λ ring. ring.capacity) c.push_front.ensures.items ∙ behind.room;
+          are_there t behind.world c.keep.new.self
+          (home_pushed t session.world behind.world session.kept was is c.in-Ok.ensures.behind c.here.result.now c.here.ensures 8 c.mark-mark.result
+          c.keep.new.self c.mark-mark.ensures pushed);
     }
 
 pub returns-then-is_kept-clause-answer : goal.returns-then-is_kept-clause-answer
@@ -38,15 +37,14 @@ returns-then-is_kept-clause-answer g c =
     let t = session.story.value in
     let s = state_of session in
     let w = world_in behind.world in
-    let was = home_of t session.world session.kept.items session.there session.world_story session.marks in
+    let was = home_of t session.world session.kept session.there session.world_story session.marks in
     let is =
-    subst (λ ring. IsHome t behind.world ring.items) c.in-Ok.ensures.marks
-    (subst (λ (t : Tables). IsHome t behind.world behind.kept.items) c.in-Ok.ensures.story (home_of behind.story.value behind.world behind.kept.items behind.there behind.world_story behind.marks)) in
-    let pushed = ap (λ ring. ring.items) c.push_front.ensures.items ∙ ap (λ ring. take ring.capacity (c.mark-mark.result ∷ ring.items)) c.in-Ok.ensures.marks in
+    subst (λ (marks : List ℕ). IsHome t behind.world marks) c.in-Ok.ensures.marks
+    (subst (λ (t : Tables). IsHome t behind.world behind.kept) c.in-Ok.ensures.story (home_of behind.story.value behind.world behind.kept behind.there behind.world_story behind.marks)) in
+    let pushed = c.keep.ensures ∙ ap (λ (marks : List ℕ). take 8 (c.mark-mark.result ∷ marks)) c.in-Ok.ensures.marks in
     let kept =
-    kept_put t session.world behind.world session.kept.items was is c.in-Ok.ensures.behind c.here.result.now c.here.ensures session.kept.capacity c.mark-mark.result
-    c.push_front.new.self.items c.mark-mark.ensures pushed
-    ∙ ap (λ n. take n (world_in session.world ∷ kept_in session.world session.kept.items)) session.room
+    kept_put t session.world behind.world session.kept was is c.in-Ok.ensures.behind c.here.result.now c.here.ensures 8 c.mark-mark.result
+    c.keep.new.self c.mark-mark.ensures pushed
     ∙ ap (λ is_kept. kept_by is_kept s) (sym c.if-is_kept.true) in
     deed_told c.args.deed.now (game_of session) s (state_of c.take_up.new.self) c.is_turn-is_kept.result c.take_up.result.kind w c.args.text.now.said c.trial.new.text.said
     c.is_turn-is_kept.ensures c.in-Ok.ensures.told (c.take_up.ensures.kind ∙ ap (λ is_kept. kind_told (kind_by is_kept) w.ended) (sym c.if-is_kept.true))
@@ -59,13 +57,13 @@ returns-else-is_kept-clause-answer g c =
     let t = session.story.value in
     let s = state_of session in
     let w = world_in behind.world in
-    let was = home_of t session.world session.kept.items session.there session.world_story session.marks in
+    let was = home_of t session.world session.kept session.there session.world_story session.marks in
     let is =
-    subst (λ ring. IsHome t behind.world ring.items) c.in-Ok.ensures.marks
-    (subst (λ (t : Tables). IsHome t behind.world behind.kept.items) c.in-Ok.ensures.story (home_of behind.story.value behind.world behind.kept.items behind.there behind.world_story behind.marks)) in
+    subst (λ (marks : List ℕ). IsHome t behind.world marks) c.in-Ok.ensures.marks
+    (subst (λ (t : Tables). IsHome t behind.world behind.kept) c.in-Ok.ensures.story (home_of behind.story.value behind.world behind.kept behind.there behind.world_story behind.marks)) in
     let kept =
-    ap (λ ring. kept_in behind.world ring.items) c.in-Ok.ensures.marks
-    ∙ kept_same t session.world behind.world session.kept.items was is c.in-Ok.ensures.behind
+    ap (λ (marks : List ℕ). kept_in behind.world marks) c.in-Ok.ensures.marks
+    ∙ kept_same t session.world behind.world session.kept was is c.in-Ok.ensures.behind
     ∙ ap (λ is_kept. kept_by is_kept s) (sym c.if-is_kept.false) in
     deed_told c.args.deed.now (game_of session) s (state_of c.take_up-in-Ok.new.self) c.is_turn-is_kept.result c.take_up-in-Ok.result.kind w c.args.text.now.said c.trial.new.text.said
     c.is_turn-is_kept.ensures c.in-Ok.ensures.told (c.take_up-in-Ok.ensures.kind ∙ ap (λ is_kept. kind_told (kind_by is_kept) w.ended) (sym c.if-is_kept.false))

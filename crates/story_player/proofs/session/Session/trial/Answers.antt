@@ -11,16 +11,15 @@ invariant_of-self g c =
     let there = c.unwrap-world.ensures in
     let here : session.world ≡ Some c.unwrap-world.result = cc in
     let home =
-    home_on t session.world session.kept.items c.unwrap-world.result now (home_of t session.world session.kept.items session.there session.world_story session.marks) here
+    home_on t session.world session.kept c.unwrap-world.result now (home_of t session.world session.kept session.there session.world_story session.marks) here
     (c.tried-world.ensures.story ∙ c.as_ref.ensures) (gone_behind c.tried-world.result.1 c.unwrap-world.result now c.tried-world.ensures.behind c.tried-world.ensures.left) in
     record {
       opened = session.opened;
       whole = session.whole;
       indexed = session.indexed;
       there = refl;
-      world_story = is_of t (Some now) session.kept.items home;
-      marks = are_there t (Some now) session.kept.items home;
-      room = session.room;
+      world_story = is_of t (Some now) session.kept home;
+      marks = are_there t (Some now) session.kept home;
     }
 
 pub returns-clause-behind : goal.returns-clause-behind

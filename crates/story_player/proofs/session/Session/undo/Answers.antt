@@ -17,21 +17,21 @@ revert-requires g c =
     let taken = c.take.ensures.value in
     let there = c.unwrap-world.ensures in
     let here : session.world ≡ Some c.unwrap-world.result = cc in
-    mark_within t session.world session.kept.items c.pop_front.new.self.items c.in-Some.mark c.unwrap-world.result
-    (home_of t session.world session.kept.items session.there session.world_story session.marks) here (sym c.in-Some.ensures.value) (ap (λ ring. ring.items) c.in-Some.ensures.items)
+    mark_within t session.world session.kept c.take_back.new.self c.in-Some.mark c.unwrap-world.result
+    (home_of t session.world session.kept session.there session.world_story session.marks) here (sym c.in-Some.ensures.value) c.in-Some.ensures.rest
 
 pub invariant_of-self-in-Some : goal.invariant_of-self-in-Some
 invariant_of-self-in-Some g c =
     let session = c.args.self.now in
     let t = session.story.value in
-    let rest = c.pop_front.new.self.items in
+    let rest = c.take_back.new.self in
     let taken = c.take.ensures.value in
     let there = c.unwrap-world.ensures in
     let here : session.world ≡ Some c.unwrap-world.result = cc in
     let home =
     subst (λ (v : StoryWorld). IsHome t (Some v) rest) (sym c.revert.ensures)
-    (home_undone t session.world session.kept.items rest c.in-Some.mark c.unwrap-world.result
-    (home_of t session.world session.kept.items session.there session.world_story session.marks) here (sym c.in-Some.ensures.value) (ap (λ ring. ring.items) c.in-Some.ensures.items)) in
+    (home_undone t session.world session.kept rest c.in-Some.mark c.unwrap-world.result
+    (home_of t session.world session.kept session.there session.world_story session.marks) here (sym c.in-Some.ensures.value) c.in-Some.ensures.rest) in
     record {
       opened = session.opened;
       whole = session.whole;
@@ -39,7 +39,6 @@ invariant_of-self-in-Some g c =
       there = refl;
       world_story = is_of t (Some c.revert.new.self) rest home;
       marks = are_there t (Some c.revert.new.self) rest home;
-      room = ap (λ ring. ring.capacity) c.in-Some.ensures.items ∙ session.room;
     }
 
 pub returns-in-Some-clause-answer : goal.returns-in-Some-clause-answer
@@ -47,13 +46,13 @@ returns-in-Some-clause-answer g c =
     let session = c.args.self.now in
     let s = state_of session in
     let t = session.story.value in
-    let rest = c.pop_front.new.self.items in
+    let rest = c.take_back.new.self in
     let taken = c.take.ensures.value in
     let there = c.unwrap-world.ensures in
     let here : session.world ≡ Some c.unwrap-world.result = cc in
     let kept =
-    kept_undone t session.world session.kept.items rest c.in-Some.mark c.unwrap-world.result
-    (home_of t session.world session.kept.items session.there session.world_story session.marks) here (sym c.in-Some.ensures.value) (ap (λ ring. ring.items) c.in-Some.ensures.items) in
+    kept_undone t session.world session.kept rest c.in-Some.mark c.unwrap-world.result
+    (home_of t session.world session.kept session.there session.world_story session.marks) here (sym c.in-Some.ensures.value) c.in-Some.ensures.rest in
     record {
       answer = (λ i. so_far (c.add_fixed-in-Some.ensures.said i) Free (record { world = (c.revert.ensures i).world; kept = kept_in (Some (c.revert.ensures i)) rest; question = None; ending = session.ending }))
           ∙ sym (ap (λ (worlds : List World). said_behind c.args.text.now.said (undone worlds s)) kept);
