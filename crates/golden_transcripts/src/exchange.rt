@@ -1,12 +1,13 @@
 //! A command of a golden transcript, and both answers to it.
+ghost use Rattle.std.specs.Prelude.{◌≡◌, bytes_eq};
 
-/// A command, the answer that was kept and what the story says to it. Of the opening the command is empty.
-#[derive(Debug, Drop)]
+/// A command, the answer that was kept and what the story says to it; the opening has no command.
+#[derive(Drop)]
 pub struct Exchange<'a> {
     /// The line of the kept file at which the command stands, or the opening begins, from 1.
     pub line: u32,
     /// The command, without its line break.
-    pub command: &'a [u8],
+    pub command: Option<&'a [u8]>,
     /// The answer as it was kept.
     pub kept: &'a [u8],
     /// The answer as it is now.
@@ -15,7 +16,9 @@ pub struct Exchange<'a> {
 
 impl Exchange<'_> {
     /// Whether the story answers as it was kept.
-    pub fn is_same(&self) -> bool {
+    pub fn is_same(&self) -> bool
+        ensures { result ≡ bytes_eq self.now.kept.now self.now.said.items }
+    {
         self.kept == self.said.as_slice()
     }
 }

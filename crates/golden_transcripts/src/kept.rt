@@ -1,6 +1,7 @@
 //! A kept transcript, read from its front as it is played.
-ghost use Rattle.std.specs.Prelude.{◌≡◌, ◌+◌, ◌<◌, ◌≤◌, length};
+ghost use Rattle.std.specs.Prelude.{◌≡◌, ◌-◌, ◌++◌, ◌<◌, ◌≤◌, length};
 ghost use Rattle.std.specs.Option.{ForSome};
+ghost use Rattle.golden_transcripts.specs.Transcripts.{IsBehind};
 
 /// What stands in front of each command.
 const PROMPT: &[u8] = b"\n>";
@@ -8,7 +9,7 @@ const PROMPT: &[u8] = b"\n>";
 /// With this a line begins that is a comment, in front of a transcript.
 const COMMENT: &[u8] = b"* ";
 
-/// An empty line, and behind it a comment, which belongs to the next transcript.
+/// An empty line, and behind it a comment.
 const NEXT: &[u8] = b"\n* ";
 
 /// What is left of a kept file, and the line at which that begins.
@@ -19,7 +20,9 @@ pub struct Kept<'a> {
 }
 
 /// How many line breaks stand in front.
-fn breaks_in_front(bytes: &[u8]) -> usize {
+fn breaks_in_front(bytes: &[u8]) -> usize
+    ensures { result ≤ length bytes.now }
+{
     match bytes.iter().position(|byte| *byte != b'\n') {
         Some(count) => count,
         None => bytes.len(),
@@ -29,43 +32,59 @@ fn breaks_in_front(bytes: &[u8]) -> usize {
 /// Whether nothing but line breaks stands in front of the file's end, or of the next transcript's comment.
 fn is_end(bytes: &[u8]) -> bool {
     let breaks = breaks_in_front(bytes);
-    breaks == bytes.len() || breaks > 0 && bytes[breaks..].starts_with(COMMENT)
+    breaks == bytes.len() || breaks > 0 && bytes.split_at(breaks).1.starts_with(COMMENT)
 }
 
-/// Whether an answer may end in front of these bytes, where they begin a line.
-fn may_end(bytes: &[u8]) -> bool {
-    bytes.starts_with(PROMPT) || bytes.starts_with(NEXT)
+/// Whether the answer stands in front, whole, with what follows an answer behind it.
+fn is_answered(bytes: &[u8], said: &[u8], has_ended: bool) -> bool {
+    match bytes.strip_prefix(said) {
+        Some(behind) if has_ended => is_end(behind),
+        Some(behind) => behind.starts_with(PROMPT),
+        None => false,
+    }
 }
 
-/// The bytes in front of the first place at which an answer may end.
-fn up_to_end(bytes: &[u8]) -> usize {
-    let mut last = b'\n';
+/// Whether a line closes a transcript: the story's end is told in it, or it is a prompt alone.
+fn closes(line: &[u8]) -> bool {
+    line == b">".as_slice() || line.starts_with(b"*** ") && line.ends_with(b" ***")
+}
+
+/// The bytes in front of a line that closes nothing: up to the first prompt, if prompts count, and else up to the break behind the
+/// first line that closes a transcript and has another transcript's comment below it.
+fn up_to_end(bytes: &[u8], has_prompts: bool) -> usize {
+    let (mut begins, mut last) = (0, b'\n');
     for (place, byte) in bytes.iter().enumerate() {
-        if last == b'\n' && may_end(bytes.split_at(place).1) {
-            return place;
+        let (front, rest) = bytes.split_at(place);
+        if last == b'\n' {
+            let is_next = rest.starts_with(NEXT) && closes(line_before(front, begins));
+            if is_next || has_prompts && rest.starts_with(PROMPT) {
+                return place;
+            }
+            begins = place;
         }
         last = *byte;
     }
     bytes.len()
 }
 
-/// The bytes in front of the next transcript's comment and of the line break in front of that.
-fn up_to_next(bytes: &[u8]) -> usize {
-    let mut last = b'\n';
-    for (place, byte) in bytes.iter().enumerate() {
-        if last == b'\n' && bytes.split_at(place).1.starts_with(NEXT) {
-            return place;
-        }
-        last = *byte;
+/// The last line of a text, which begins at this place, without its line break.
+fn line_before(front: &[u8], begins: usize) -> &[u8] {
+    let line = front.split_at(begins.min(front.len())).1;
+    match line.strip_suffix(b"\n") {
+        Some(line) => line,
+        None => line,
     }
-    bytes.len()
 }
 
-/// The bytes of the comments in front.
-fn comments_in_front(bytes: &[u8]) -> usize {
+/// The bytes of the comments in front, and of the line breaks in front of them, up to where the opening stands.
+fn comments_in_front(bytes: &[u8], opening: &[u8], has_ended: bool) -> usize {
+    let breaks = breaks_in_front(bytes);
+    let has_breaks = bytes.split_at(breaks).1.starts_with(COMMENT);
     let mut last = b'\n';
     for (place, byte) in bytes.iter().enumerate() {
-        if last == b'\n' && !bytes.split_at(place).1.starts_with(COMMENT) {
+        let rest = bytes.split_at(place).1;
+        let is_comment = rest.starts_with(COMMENT) || has_breaks && place < breaks;
+        if last == b'\n' && (!is_comment || is_answered(rest, opening, has_ended)) {
             return place;
         }
         last = *byte;
@@ -75,7 +94,9 @@ fn comments_in_front(bytes: &[u8]) -> usize {
 
 impl<'a> Kept<'a> {
     /// A kept file, from its front.
-    pub fn new(file: &'a [u8]) -> Kept<'a> {
+    pub fn new(file: &'a [u8]) -> Kept<'a>
+        ensures { result.rest.now ≡ file.now }
+    {
         Kept {
             rest: file,
             line: 1,
@@ -84,8 +105,8 @@ impl<'a> Kept<'a> {
 
     /// Takes so many bytes from the front, at most all that are left.
     fn take(&mut self, count: usize) -> &'a [u8]
-        ensures most { length self.old.rest.now ≤ length self.new.rest.now + count }
-        ensures fewer { length self.new.rest.now ≤ length self.old.rest.now }
+        ensures parts { self.old.rest.now ≡ result.now ++ self.new.rest.now }
+        ensures fewer { length self.new.rest.now ≡ length self.old.rest.now - count }
     {
         let (front, behind) = self.rest.split_at(count.min(self.rest.len()));
         let breaks = front.iter().filter(|byte| **byte == b'\n').count();
@@ -96,53 +117,61 @@ impl<'a> Kept<'a> {
         front
     }
 
-    /// Takes the line at the front, without its line break.
-    fn take_line(&mut self) -> &'a [u8]
-        ensures { length self.new.rest.now ≤ length self.old.rest.now }
+    /// Takes the comments in front of a transcript that begins with this opening.
+    pub fn take_comments(&mut self, opening: &[u8], has_ended: bool) -> &'a [u8]
+        ensures { self.old.rest.now ≡ result.now ++ self.new.rest.now }
     {
-        let line = match self.rest.iter().position(|byte| *byte == b'\n') {
-            Some(place) => self.take(place),
-            None => self.take(self.rest.len()),
+        self.take(comments_in_front(self.rest, opening, has_ended))
+    }
+
+    /// Takes what is left of a transcript where the story has ended.
+    pub fn take_left(&mut self) -> &'a [u8]
+        ensures { self.old.rest.now ≡ result.now ++ self.new.rest.now }
+    {
+        let count = if is_end(self.rest) {
+            0
+        } else {
+            up_to_end(self.rest, false)
         };
-        self.take(1);
-        line
+        self.take(count)
     }
 
-    /// Takes the comments in front of a transcript.
-    pub fn take_comments(&mut self) -> &'a [u8] {
-        self.take(comments_in_front(self.rest))
-    }
-
-    /// Takes what is left of a transcript.
-    pub fn take_left(&mut self) -> &'a [u8] {
-        if is_end(self.rest) {
-            return self.take(0);
-        }
-        self.take(up_to_next(self.rest))
-    }
-
-    /// Takes the line breaks behind a transcript.
-    pub fn take_breaks(&mut self) -> &'a [u8] {
+    /// Takes the line breaks in front.
+    pub fn take_breaks(&mut self) -> &'a [u8]
+        ensures { self.old.rest.now ≡ result.now ++ self.new.rest.now }
+    {
         self.take(breaks_in_front(self.rest))
     }
 
     /// Takes an answer: this one, if it stands there whole and what follows an answer behind it, else what is kept in its place.
-    pub fn take_answer(&mut self, said: &[u8], has_ended: bool) -> &'a [u8] {
-        let is_kept = match self.rest.strip_prefix(said) {
-            Some(behind) if has_ended => is_end(behind),
-            Some(behind) => behind.starts_with(PROMPT),
-            None => false,
-        };
-        if is_kept {
-            self.take(said.len())
+    pub fn take_answer(&mut self, said: &[u8], has_ended: bool) -> &'a [u8]
+        ensures { self.old.rest.now ≡ result.now ++ self.new.rest.now }
+    {
+        let count = if is_answered(self.rest, said, has_ended) {
+            said.len()
         } else {
-            self.take(up_to_end(self.rest))
-        }
+            up_to_end(self.rest, true)
+        };
+        self.take(count)
+    }
+
+    /// Takes the line at the front, and tells it without its line break.
+    fn take_line(&mut self) -> &'a [u8]
+        ensures { IsBehind self.old.rest.now self.new.rest.now }
+    {
+        let count = match self.rest.iter().position(|byte| *byte == b'\n') {
+            Some(place) => place,
+            None => self.rest.len(),
+        };
+        let line = self.take(count);
+        self.take(1);
+        line
     }
 
     /// Takes the prompt and the command behind it, and tells its line; none where no prompt stands there, and behind the last.
     pub fn take_command(&mut self) -> Option<(u32, &'a [u8])>
-        ensures { ForSome result (λ _. length self.new.rest.now < length self.old.rest.now) }
+        ensures behind { IsBehind self.old.rest.now self.new.rest.now }
+        ensures shorter { ForSome result (λ _. length self.new.rest.now < length self.old.rest.now) }
     {
         if !self.rest.starts_with(PROMPT) {
             return None;

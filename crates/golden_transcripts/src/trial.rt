@@ -1,7 +1,8 @@
 //! Trying a kept transcript: its commands are found and played.
-ghost use Rattle.std.specs.Prelude.{◌≡◌, ◌<◌, IfOk, length};
+ghost use Rattle.std.specs.Prelude.{◌≡◌, ◌<◌, ◌++◌, IfErr, IfOk, OnOk, bytes_eq, flat_map, length};
 ghost use Rattle.std.specs.Option.{ForSome};
-ghost use Rattle.golden_transcripts.specs.Transcripts.{IsTranscript};
+ghost use Rattle.golden_transcripts.specs.Commands.{line_of};
+ghost use Rattle.golden_transcripts.specs.Transcripts.{IsBehind, IsTranscript, IsUntried};
 
 use crate::exchange::Exchange;
 use crate::kept::Kept;
@@ -9,7 +10,7 @@ use source_player::{SourceRunFault, run_story};
 use standard_rules::HostTable;
 use std::alloc::{AllocError, Global};
 use story_format::load;
-use story_player::{Session, StartFault, Watched};
+use story_player::{RunFault, Session, StartFault, Watched};
 use world_meaning::TextBytes;
 
 /// Memory was refused.
@@ -35,10 +36,20 @@ pub struct Trial<'a> {
 }
 
 /// A session at the beginning of a story, by the standard rules.
-fn session_of(alloc: Global, story: &[u8]) -> Result<Session, SourceRunFault> {
-    let story = load(alloc, story).map_err(|fault| SourceRunFault::Story(fault))?;
-    let hosts = HostTable::standard(alloc).map_err(|_| OUT_OF_MEMORY)?;
-    Session::start(alloc, story, hosts).map_err(|fault| SourceRunFault::Start(fault))
+fn session_of(alloc: Global, story: &[u8]) -> Result<Session, SourceRunFault>
+    ensures { IfErr result (λ fault. IsUntried story.now fault) }
+{
+    let story = match load(alloc, story) {
+        Ok(story) => story,
+        Err(fault) => return Err(SourceRunFault::Story(fault)),
+    };
+    let Ok(hosts) = HostTable::standard(alloc) else {
+        return Err(OUT_OF_MEMORY);
+    };
+    match Session::start(alloc, story, hosts) {
+        Ok(session) => Ok(session),
+        Err(_) => Err(OUT_OF_MEMORY),
+    }
 }
 
 /// The transcript of a story's commands, which are echoed.
@@ -51,23 +62,22 @@ pub fn transcript_of(
     story: &[u8],
     commands: &[u8],
 ) -> Result<TextBytes, SourceRunFault>
-    ensures { IfOk result (λ transcript. IsTranscript story.now commands.now transcript) }
+    ensures played { IfOk result (λ transcript. IsTranscript story.now commands.now transcript) }
+    ensures left { IfErr result (λ fault. IsUntried story.now fault) }
 {
-    let hosts = HostTable::standard(alloc).map_err(|_| OUT_OF_MEMORY)?;
+    let Ok(hosts) = HostTable::standard(alloc) else {
+        return Err(OUT_OF_MEMORY);
+    };
     let mut reader = Watched::new(commands);
     let mut writer = Watched::new(Vec::new(alloc));
-    run_story(alloc, story, hosts, &mut reader, &mut writer, true)?;
-    Ok(TextBytes::new(writer.into_inner()))
-}
-
-/// The next command of a kept file and its line, while the session goes on.
-fn next_command<'a>(session: &Session, file: &mut Kept<'a>) -> Option<(u32, &'a [u8])>
-    ensures { ForSome result (λ _. length file.new.rest.now < length file.old.rest.now) }
-{
-    if session.ending().is_some() {
-        return None;
+    match run_story(alloc, story, hosts, &mut reader, &mut writer, true) {
+        Ok(_) => Ok(TextBytes::new(writer.into_inner())),
+        Err(SourceRunFault::Story(fault)) => Err(SourceRunFault::Story(fault)),
+        Err(SourceRunFault::Run(RunFault::InputTooLong)) => Err(SourceRunFault::Run(
+            RunFault::InputTooLong,
+        )),
+        Err(_) => Err(OUT_OF_MEMORY),
     }
-    file.take_command()
 }
 
 /// A copy of these bytes.
@@ -77,42 +87,93 @@ fn copied(alloc: Global, bytes: &[u8]) -> Result<Vec<u8>, AllocError> {
     Ok(copy)
 }
 
+/// The next command of a kept file and its line, while the session goes on.
+fn next_command<'a>(session: &Session, file: &mut Kept<'a>) -> Option<(u32, &'a [u8])>
+    ensures behind { IsBehind file.old.rest.now file.new.rest.now }
+    ensures shorter { ForSome result (λ _. length file.new.rest.now < length file.old.rest.now) }
+{
+    if session.ending().is_some() {
+        return None;
+    }
+    file.take_command()
+}
+
+/// The opening of a session, and what was kept of it.
+fn opening_in<'a>(
+    alloc: Global,
+    session: &Session,
+    file: &mut Kept<'a>,
+) -> Result<Exchange<'a>, AllocError>
+    ensures { OnOk result (IsBehind file.old.rest.now file.new.rest.now) }
+{
+    let line = file.line;
+    let said = copied(alloc, session.opening())?;
+    let kept = file.take_answer(said.as_slice(), session.ending().is_some());
+    Ok(Exchange {
+        line,
+        command: None,
+        kept,
+        said,
+    })
+}
+
+/// A command that was found at a line, the session's answer, and what was kept of it.
+fn answered<'a>(
+    alloc: Global,
+    session: &mut Session,
+    file: &mut Kept<'a>,
+    line: u32,
+    command: &'a [u8],
+) -> Result<Exchange<'a>, AllocError>
+    ensures { OnOk result (IsBehind file.old.rest.now file.new.rest.now) }
+{
+    let said = copied(alloc, session.line(command).text())?;
+    let kept = file.take_answer(said.as_slice(), session.ending().is_some());
+    Ok(Exchange {
+        line,
+        command: Some(command),
+        kept,
+        said,
+    })
+}
+
 /// The opening, and each command that a kept transcript holds, with both answers: a command is what stands behind a prompt that the
 /// story gives, too.
 fn exchanges_in<'a>(
     alloc: Global,
     mut session: Session,
     file: &mut Kept<'a>,
-) -> Result<Vec<Exchange<'a>>, AllocError> {
+) -> Result<Vec<Exchange<'a>>, AllocError>
+    ensures { OnOk result (IsBehind file.old.rest.now file.new.rest.now) }
+{
     let mut exchanges = Vec::new(alloc);
-    let line = file.line;
-    let said = copied(alloc, session.opening())?;
-    let kept = file.take_answer(said.as_slice(), session.ending().is_some());
-    exchanges.push(Exchange {
-        line,
-        command: b"",
-        kept,
-        said,
-    })?;
+    let opening = opening_in(alloc, &session, file)?;
+    exchanges.push(opening)?;
     while let Some((line, command)) = next_command(&session, file) {
-        let said = copied(alloc, session.line(command).text())?;
-        let kept = file.take_answer(said.as_slice(), session.ending().is_some());
-        exchanges.push(Exchange {
-            line,
-            command,
-            kept,
-            said,
-        })?;
+        let exchange = answered(alloc, &mut session, file, line, command)?;
+        exchanges.push(exchange)?;
     }
     Ok(exchanges)
 }
 
-/// The commands of these exchanges, a line each; in front of the first there is none.
-fn commands_of(alloc: Global, exchanges: &[Exchange<'_>]) -> Result<Vec<u8>, AllocError> {
+/// Puts a command behind others, with a line break, if there is one.
+fn add_command(commands: &mut Vec<u8>, exchange: &Exchange<'_>) -> Result<(), AllocError>
+    ensures { OnOk result (commands.new.items ≡ commands.old.items ++ line_of exchange.now) }
+{
+    let Some(command) = exchange.command else {
+        return Ok(());
+    };
+    commands.extend_from_slice(command)?;
+    commands.push(b'\n')
+}
+
+/// The commands of these exchanges, a line each.
+fn commands_of(alloc: Global, exchanges: &[Exchange<'_>]) -> Result<Vec<u8>, AllocError>
+    ensures { IfOk result (λ commands. commands.items ≡ flat_map line_of exchanges.now) }
+{
     let mut commands = Vec::new(alloc);
-    for exchange in exchanges.iter().skip(1) {
-        commands.extend_from_slice(exchange.command)?;
-        commands.push(b'\n')?;
+    for exchange in exchanges {
+        add_command(&mut commands, exchange)?;
     }
     Ok(commands)
 }
@@ -127,19 +188,27 @@ pub fn tried<'a>(
     story: &[u8],
     file: &mut Kept<'a>,
 ) -> Result<Trial<'a>, SourceRunFault>
+    // What was found is a part of the file, and nothing of the file is lost.
+    ensures parts { IfOk result (λ trial. file.old.rest.now ≡ trial.comments.now ++ (trial.kept.now ++ (trial.breaks.now ++ file.new.rest.now))) }
+    ensures commands { IfOk result (λ trial. trial.commands ≡ flat_map line_of trial.exchanges.items) }
+
+    // It is the same exactly where it is the transcript of these commands.
     ensures played { IfOk result (λ trial. IsTranscript story.now trial.commands trial.transcript) }
     ensures same { IfOk result (λ trial. trial.same ≡ bytes_eq trial.transcript trial.kept.now) }
+    ensures left { IfErr result (λ fault. IsUntried story.now fault) }
 {
     let session = session_of(alloc, story)?;
-    let comments = file.take_comments();
+    let comments = file.take_comments(session.opening(), session.ending().is_some());
     let begun = file.rest;
-    let exchanges = exchanges_in(alloc, session, file).map_err(|_| OUT_OF_MEMORY)?;
+    let Ok(exchanges) = exchanges_in(alloc, session, file) else {
+        return Err(OUT_OF_MEMORY);
+    };
     file.take_left();
-    let kept = begun
-        .split_at(begun.len().saturating_sub(file.rest.len()))
-        .0;
+    let kept = begun.split_at(begun.len() - file.rest.len()).0;
     let breaks = file.take_breaks();
-    let commands = commands_of(alloc, exchanges.as_slice()).map_err(|_| OUT_OF_MEMORY)?;
+    let Ok(commands) = commands_of(alloc, exchanges.as_slice()) else {
+        return Err(OUT_OF_MEMORY);
+    };
     let transcript = transcript_of(alloc, story, commands.as_slice())?;
     let same = transcript.as_slice() == kept;
     Ok(Trial {

@@ -13,7 +13,7 @@ use story_file::compile;
 use story_player::Watched;
 
 /// The path that is standard input where a file is read, and what it leads to.
-const INPUT: &str = "-";
+pub const INPUT: &str = "-";
 
 const STANDARD_INPUT: &str = "/dev/stdin";
 

@@ -1,7 +1,8 @@
 //! Trying kept transcripts: what a story says now is compared with them.
-use crate::deeds::{bytes_of, playing_fault};
+use crate::command::faulty;
+use crate::deeds::{INPUT, bytes_of, playing_fault};
 use crate::difference::write_difference;
-use crate::saving::save;
+use crate::saving::{is_same_file, save};
 use golden_transcripts::{Exchange, Kept, Trial, tried};
 use source_player::ProgramFault;
 use std::alloc::{AllocError, Global};
@@ -11,6 +12,9 @@ use story_player::RunFault;
 
 /// With this a story file begins.
 const MAGIC: &[u8] = b"I7ST";
+
+/// With this a transcript ends, unless its story has ended.
+const PROMPT: &[u8] = b"\n>";
 
 /// How transcripts are tried.
 #[derive(Clone, Copy, Debug)]
@@ -41,6 +45,8 @@ struct Tally {
     answers: u32,
     differ: u32,
     verdict: Verdict,
+    /// Whether a prompt was found in each, so that they are transcripts at all.
+    prompted: bool,
 }
 
 /// What is told can't be written.
@@ -63,11 +69,12 @@ fn tested<'a>(rt: &HostRuntime, path: &'a str) -> Result<Tested<'a>, ProgramFaul
 /// Writes an exchange whose answers differ.
 fn show<W: Write>(out: &mut W, path: &str, exchange: &Exchange<'_>) -> io::Result<()> {
     write!(out, "{path}:{}: ", exchange.line)?;
-    if exchange.command.is_empty() {
-        out.write_all(b"the opening")?;
-    } else {
-        out.write_all(b">")?;
-        out.write_all(exchange.command)?;
+    match exchange.command {
+        Some(command) => {
+            out.write_all(b">")?;
+            out.write_all(command)?;
+        }
+        None => out.write_all(b"the opening")?,
     }
     out.write_all(b"\n")?;
     write_difference(out, exchange.kept, exchange.said.as_slice())
@@ -95,6 +102,7 @@ fn show_trial<W: Write>(
         return Ok(());
     }
     tally.verdict = Verdict::Differs;
+    tally.prompted = tally.prompted && (trial.exchanges.len() > 1 || trial.kept.ends_with(PROMPT));
     if tally.differ == before {
         writeln!(out, "{path}: what was kept ends elsewhere")?;
     }
@@ -114,52 +122,100 @@ fn show_tally<W: Write>(out: &mut W, path: &str, tally: Tally, bless: bool) -> i
     }
 }
 
-/// Puts a transcript as it is now behind what was written of its file.
+/// Puts a transcript as it is now behind what was written of its file. What is a comment stays a line of its own.
 fn write_anew(file: &mut Vec<u8>, trial: &Trial<'_>) -> Result<(), AllocError> {
     file.extend_from_slice(trial.comments)?;
+    if !trial.comments.is_empty() && !trial.comments.ends_with(b"\n") {
+        file.push(b'\n')?;
+    }
     file.extend_from_slice(trial.transcript.as_slice())?;
     file.extend_from_slice(trial.breaks)
 }
 
-/// Tries the transcripts of a file, one behind the other, and shows what differs.
+/// The bytes of a file of transcripts, each carriage return in front of a line break, or of the end, dropped.
+fn transcripts_of<'a>(rt: &HostRuntime, path: &'a str) -> Result<Vec<u8>, ProgramFault<'a>> {
+    let bytes = bytes_of(rt, path)?;
+    let mut kept = Vec::new(rt.alloc());
+    for (place, byte) in bytes.as_slice().iter().enumerate() {
+        let ends = matches!(bytes.as_slice().get(place + 1), None | Some(b'\n'));
+        if *byte != b'\r' || !ends {
+            kept.push(*byte).map_err(|_| ProgramFault::Memory)?;
+        }
+    }
+    Ok(kept)
+}
+
+/// Tries the transcripts of a file, one behind the other, shows what differs, and gives the file as it would be written anew.
+fn try_each<'a>(
+    rt: &HostRuntime,
+    story: &Tested<'a>,
+    path: &'a str,
+    kept: &[u8],
+    how: Trying,
+) -> Result<(Tally, Vec<u8>), ProgramFault<'a>> {
+    let mut file = Kept::new(kept);
+    let mut anew = Vec::new(rt.alloc());
+    let mut tally = Tally {
+        answers: 0,
+        differ: 0,
+        verdict: Verdict::Same,
+        prompted: true,
+    };
+    let mut out = rt.stdout();
+    for _ in 0..=kept.len() {
+        let trial = tried(rt.alloc(), story.bytes.as_slice(), &mut file).map_err(
+            |fault| playing_fault(story.path, fault),
+        )?;
+        show_trial(&mut out, path, &trial, how.all, &mut tally).map_err(|_| unwritten())?;
+        write_anew(&mut anew, &trial).map_err(|_| ProgramFault::Memory)?;
+        if file.rest.is_empty() {
+            break;
+        }
+    }
+    Ok((tally, anew))
+}
+
+/// Tries the transcripts of a file, and writes it anew where that is asked for and they differ. A file without a prompt is none of
+/// transcripts, and stays.
 fn try_file<'a>(
     rt: &HostRuntime,
     story: &Tested<'a>,
     path: &'a str,
     how: Trying,
 ) -> Result<Verdict, ProgramFault<'a>> {
-    let alloc = rt.alloc();
-    let bytes = bytes_of(rt, path)?;
-    let mut kept = Kept::new(bytes.as_slice());
-    let mut tally = Tally {
-        answers: 0,
-        differ: 0,
-        verdict: Verdict::Same,
-    };
-    let mut anew = Vec::new(alloc);
-    let mut out = rt.stdout();
-    for _ in 0..=bytes.len() {
-        let trial = tried(alloc, story.bytes.as_slice(), &mut kept).map_err(|fault| playing_fault(
-            story.path, fault,
-        ))?;
-        show_trial(&mut out, path, &trial, how.all, &mut tally).map_err(|_| ProgramFault::Stream(
-            RunFault::Write,
-        ))?;
-        write_anew(&mut anew, &trial).map_err(|_| ProgramFault::Memory)?;
-        if kept.rest.is_empty() {
-            break;
-        }
-    }
-    let is_anew = how.bless && tally.verdict == Verdict::Differs;
+    let kept = transcripts_of(rt, path)?;
+    let (tally, anew) = try_each(rt, story, path, kept.as_slice(), how)?;
+    let is_anew = how.bless
+        && tally.verdict == Verdict::Differs
+        && (tally.prompted || kept.is_empty());
     if is_anew {
         save(rt, path, anew.as_slice())?;
     }
-    show_tally(&mut out, path, tally, how.bless).map_err(|_| unwritten())?;
+    show_tally(&mut rt.stdout(), path, tally, is_anew).map_err(|_| unwritten())?;
     Ok(if is_anew {
         Verdict::Same
     } else {
         tally.verdict
     })
+}
+
+/// Refuses what can't be a file of transcripts: standard input, and, where it may be written anew, the story's own file.
+fn check_path<'a>(
+    rt: &HostRuntime,
+    story: &str,
+    path: &'a str,
+    how: Trying,
+) -> Result<(), ProgramFault<'a>> {
+    if path == INPUT {
+        return Err(faulty(
+            rt.alloc(),
+            "i7story: a transcript is kept in a file, and - is none\n",
+        ));
+    }
+    if how.bless && is_same_file(rt, story, path) {
+        return Err(ProgramFault::CannotWrite(path));
+    }
+    Ok(())
 }
 
 /// Tries the transcripts of these files with a story, or the story of a source.
@@ -169,6 +225,9 @@ pub fn try_files<'a>(
     paths: &[&'a str],
     how: Trying,
 ) -> Result<Verdict, ProgramFault<'a>> {
+    for path in paths {
+        check_path(rt, story, path, how)?;
+    }
     let story = tested(rt, story)?;
     let mut verdict = Verdict::Same;
     for path in paths {
