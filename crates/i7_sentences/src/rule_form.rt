@@ -129,7 +129,9 @@ pub const RULE_FORMS: [FormRow; 11] = [
             ),
             (
                 Form::NamedHead(HeadBook::Instead, HeadParts::Pattern),
-                &[INSTEAD, OF, WORDS, OPEN, THIS, IS, THE, WORDS, RULE, CLOSE, BODY],
+                &[
+                    INSTEAD, OF, WORDS, OPEN, THIS, IS, THE, WORDS, RULE, CLOSE, BODY,
+                ],
             ),
         ],
     ),
@@ -155,7 +157,9 @@ pub const RULE_FORMS: [FormRow; 11] = [
             ),
             (
                 Form::NamedHead(HeadBook::CarryOut, HeadParts::Pattern),
-                &[CARRY, OUT, WORDS, OPEN, THIS, IS, THE, WORDS, RULE, CLOSE, BODY],
+                &[
+                    CARRY, OUT, WORDS, OPEN, THIS, IS, THE, WORDS, RULE, CLOSE, BODY,
+                ],
             ),
         ],
     ),
@@ -237,7 +241,9 @@ pub const RULE_FORMS: [FormRow; 11] = [
             ),
             (
                 Form::NamedHead(HeadBook::PlayBegins, HeadParts::Nothing),
-                &[WHEN, PLAY, BEGINS, OPEN, THIS, IS, THE, WORDS, RULE, CLOSE, BODY],
+                &[
+                    WHEN, PLAY, BEGINS, OPEN, THIS, IS, THE, WORDS, RULE, CLOSE, BODY,
+                ],
             ),
         ],
     ),
@@ -250,7 +256,9 @@ pub const RULE_FORMS: [FormRow; 11] = [
             ),
             (
                 Form::NamedHead(HeadBook::SceneBegins, HeadParts::Nothing),
-                &[WHEN, NAME, BEGINS, OPEN, THIS, IS, THE, WORDS, RULE, CLOSE, BODY],
+                &[
+                    WHEN, NAME, BEGINS, OPEN, THIS, IS, THE, WORDS, RULE, CLOSE, BODY,
+                ],
             ),
         ],
     ),
@@ -263,7 +271,9 @@ pub const RULE_FORMS: [FormRow; 11] = [
             ),
             (
                 Form::NamedHead(HeadBook::SceneEnds, HeadParts::Nothing),
-                &[WHEN, NAME, ENDS, OPEN, THIS, IS, THE, WORDS, RULE, CLOSE, BODY],
+                &[
+                    WHEN, NAME, ENDS, OPEN, THIS, IS, THE, WORDS, RULE, CLOSE, BODY,
+                ],
             ),
         ],
     ),

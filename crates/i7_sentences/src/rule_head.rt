@@ -1,5 +1,5 @@
 //! What the head of a rule says.
-ghost use Rattle.std.specs.Prelude.{◌≡◌, ◌≤◌, drop, length, map, option_map, IfOk};
+ghost use Rattle.std.specs.Prelude.{◌≡◌, ◌≤◌, length, map, option_map, IfOk};
 ghost use Rattle.std.specs.List.{position_or_len};
 ghost use Rattle.i7_sentences.specs.Classes.{is_body_mark};
 ghost use Rattle.i7_sentences.specs.Found.{found_in};
@@ -258,16 +258,6 @@ fn head_len(tokens: &[Tagged<'_>]) -> usize
         .count()
 }
 
-/// The tokens behind the first.
-fn behind_mark(tokens: &[PackedToken]) -> &[PackedToken]
-    ensures { result.now ≡ drop 1 tokens.now }
-{
-    match tokens {
-        [] => tokens,
-        [_, behind @ ..] => behind,
-    }
-}
-
 /// The tokens of a rule: those in front of the mark that ends its head, and those of its body, which stand behind it.
 pub fn parted_at_body<'a>(
     tokens: &'a [PackedToken],
@@ -278,5 +268,8 @@ pub fn parted_at_body<'a>(
     ensures body { result.1.now ≡ body_tokens tokens.now }
 {
     let (front, rest) = tokens.split_at(head_len(words));
-    (front, behind_mark(rest))
+    match rest {
+        [] => (front, rest),
+        [_, body @ ..] => (front, body),
+    }
 }
