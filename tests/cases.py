@@ -1,12 +1,13 @@
 #!/usr/bin/env python3
-"""Compiles the sources of tests/cases/*.json: each is refused with its code at its line, or accepted with its story's bytes.
+"""Compiles the sources of tests/cases/*.json: each is refused with its code at its line, or accepted with its story's bytes, or it is
+played, and gives its transcript.
 
 Use: tests/cases.py PROGRAM [NAME]    NAME: only cases whose name begins so
 
-A case is an object of a JSON list: its name, what it is about, its source (source_hex where it is no UTF-8), its
-refusal or null, and its story in hex or null. In that story the counts of tables 8 to 12 are 0: what must stand there instead, the
-actions, lines, books and scenes, is told by a plain reading of the source's sentences (tests/rule_sources.py), and the words of the
-lines stand among its strings."""
+A case is an object of a JSON list: its name, what it is about, its source (source_hex where it is no UTF-8), and its refusal or null
+and its story in hex or null, or else the typed lines and the transcript with these echoed. In a story the counts of tables 8 to 12
+are 0: what must stand there instead, the actions, lines, books and scenes, is told by a plain reading of the source's sentences
+(tests/rule_sources.py), and the words of the lines stand among its strings."""
 import json
 import os
 import pathlib
@@ -30,10 +31,21 @@ def story_of(case, source):
     return written({**story, **filled})
 
 
+def fault_of_play(case):
+    """What is wrong with how the source of a case is played, or None."""
+    done = subprocess.run([program, "run", "s.i7", "--transcript"], input=case["commands"].encode(), capture_output=True, timeout=10)
+    if done.returncode != 0 or done.stderr:
+        return f"status {done.returncode} {done.stderr.decode(errors='replace').strip()}"
+    told = done.stdout.decode(errors="replace")
+    return None if told == case["transcript"] else f"wanted {case['transcript']!r}, got {told!r}"
+
+
 def fault_of(case):
     """What is wrong with the program's answer to a case, or None."""
     source = bytes.fromhex(case["source_hex"]) if case["source"] is None else case["source"].encode()
     pathlib.Path("s.i7").write_bytes(source)
+    if "transcript" in case:
+        return fault_of_play(case)
     story = pathlib.Path("story")
     story.unlink(missing_ok=True)
     done = subprocess.run([program, "compile", "s.i7", "story"], capture_output=True, timeout=10)

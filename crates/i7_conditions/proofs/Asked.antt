@@ -2,13 +2,13 @@
 use Rattle.std.proofs.Common.{◌≡◌, ℕ, Bool, true, false, ◌||◌, List, [], refl, sym, ap, ◌∙◌, subst}
 use Rattle.std.specs.Prelude.{Option, Some, None}
 use Rattle.play_meaning.specs.Trees as tree
-use Rattle.i7_conditions.specs.Asking.{asked_by, behind_denial, compared_by, denied_by, from_denied, from_numbers, from_object, of_adjective, of_numbers, of_object, of_scene, of_value, plain_said, scene_by}
-use Rattle.i7_conditions.specs.Adjectives.{adjective_named}
-use Rattle.i7_conditions.specs.Clauses.{AsksBy, Compared, Denied, IsDenied, OfAdjective, OfNumbers, OfObject, OfScene, OfValue, Plainly, asks_over, behind_not, compared, comparison_at, has_value, is_happening, scene_named}
+use Rattle.i7_conditions.specs.Asking.{asked_by, compared_by, denied_by, denied_twice, from_denied, from_numbers, from_object, from_twice, of_adjective, of_numbers, of_object, of_scene, of_value, plain_said, scene_by}
+use Rattle.i7_conditions.specs.Adjectives.{quality_named}
+use Rattle.i7_conditions.specs.Clauses.{AsksBy, Compared, Denied, DeniedTwice, OfAdjective, OfNumbers, OfObject, OfScene, OfValue, Plainly, asks_over, behind_not, behind_nots, compared, comparison_at, has_value, is_happening, scene_named}
 use Rattle.i7_conditions.specs.Joining.{number_said}
 use Rattle.i7_conditions.specs.Numbers.{CountsAs, IsNumberFound}
 use Rattle.i7_conditions.specs.Objects.{Means}
-use Rattle.i7_conditions.specs.Predicates.{Predicate, Says, SaysAdjective, adjective_by, is_deep, object_said, predicate_said, said_of}
+use Rattle.i7_conditions.specs.Predicates.{Predicate, Says, SaysSo, is_deep, object_said, predicate_said, said_of, so_by}
 use Rattle.i7_conditions.specs.Predicates as predicate
 use Rattle.i7_conditions.specs.Readings.{FirstOf, IsFoundAs}
 use Rattle.i7_conditions.specs.Scopes.{Scope}
@@ -22,7 +22,7 @@ use Rattle.i7_conditions.specs.declared.found.Found.{Found}
 use Rattle.i7_conditions.specs.declared.found.Found.TheVariants.{Read, TooMany, Unread}
 use Rattle.i7_conditions.proofs.Counting.{counted, numbers_found}
 use Rattle.i7_conditions.proofs.Listing.{Made, MadeOfTwo, one_found, or_found, two_found}
-use Rattle.i7_conditions.proofs.Predicated.{adjective_found, object_found, predicate_found}
+use Rattle.i7_conditions.proofs.Predicated.{object_found, predicate_found, so_found}
 use Rattle.i7_conditions.proofs.Valued.{value_found}
 
 number_as : (s : Scope) (words : List Word) (found : Found tree.Number) → IsNumberFound s words found → IsFoundAs (CountsAs s words) is_over found
@@ -77,23 +77,29 @@ abbrev pub words_in : Option (List Word) → List Word
 words_in None = []
 words_in (Some words) = words
 
-adjective_asked : (s : Scope) (subject behind : List Word) → IsFoundAs (OfAdjective s subject behind) asks_over (of_adjective s subject behind)
-adjective_asked s subject behind =
-    two_found said_of (Means s subject) (SaysAdjective s behind) is_deep predicate.is_over asks_over over_said (object_said s subject) (adjective_by (adjective_named s behind)) (object_found s subject) (adjective_found s behind)
+adjective_asked : (s : Scope) (subject words : List Word) → IsFoundAs (OfAdjective s subject words) asks_over (of_adjective s subject words)
+adjective_asked s subject words =
+    two_found said_of (Means s subject) (SaysSo s words) is_deep predicate.is_over asks_over over_said (object_said s subject) (so_by (quality_named s words)) (object_found s subject)
+    (so_found s words (quality_named s words) refl)
 
-denial_asked : (s : Scope) (subject rest : List Word) → IsFoundAs (IsDenied s subject rest) asks_over (behind_denial s subject rest)
-denial_asked s subject rest =
-    or_found (Plainly s subject rest) (OfAdjective s subject rest) asks_over (plain_said s subject rest) (of_adjective s subject rest) (plain_asked s subject rest) (adjective_asked s subject rest)
+twice_as : (s : Scope) (subject behind rest : List Word) (found : Found tree.Condition) → behind_nots behind ≡ Some rest → IsFoundAs (OfAdjective s subject rest) asks_over found → IsFoundAs (DeniedTwice s subject behind) asks_over found
+twice_as s subject behind rest (Read c) at h = ((rest, at, h.0), h.1)
+twice_as s subject behind rest TooMany at h = (h.0, (rest, at, h.1), h.2)
+twice_as s subject behind rest Unread at h = λ c asks. h c (subst (λ (words : List Word). OfAdjective s subject words c) (ap words_in (sym asks.1 ∙ at)) asks.2)
 
-denied_as : (s : Scope) (subject behind rest : List Word) (found : Found tree.Condition) → behind_not behind ≡ Some rest → IsFoundAs (Made tree.Not (IsDenied s subject rest)) asks_over found → IsFoundAs (Denied s subject behind) asks_over found
+twice_asked : (s : Scope) (subject behind : List Word) (found : Option (List Word)) → behind_nots behind ≡ found → IsFoundAs (DeniedTwice s subject behind) asks_over (denied_twice s subject found)
+twice_asked s subject behind None at = λ c asks. let same : None ≡ Some asks.0 = sym at ∙ asks.1 in absurd cc
+twice_asked s subject behind (Some rest) at = twice_as s subject behind rest (of_adjective s subject rest) at (adjective_asked s subject rest)
+
+denied_as : (s : Scope) (subject behind rest : List Word) (found : Found tree.Condition) → behind_not behind ≡ Some rest → IsFoundAs (Made tree.Not (Plainly s subject rest)) asks_over found → IsFoundAs (Denied s subject behind) asks_over found
 denied_as s subject behind rest (Read c) at h = ((rest, at, h.0), h.1)
 denied_as s subject behind rest TooMany at h = (h.0, (rest, at, h.1), h.2)
-denied_as s subject behind rest Unread at h = λ c asks. h c (subst (λ (words : List Word). Made tree.Not (IsDenied s subject words) c) (ap words_in (sym asks.1 ∙ at)) asks.2)
+denied_as s subject behind rest Unread at h = λ c asks. h c (subst (λ (words : List Word). Made tree.Not (Plainly s subject words) c) (ap words_in (sym asks.1 ∙ at)) asks.2)
 
 denied_asked : (s : Scope) (subject behind : List Word) (found : Option (List Word)) → behind_not behind ≡ found → IsFoundAs (Denied s subject behind) asks_over (denied_by s subject found)
 denied_asked s subject behind None at = λ c asks. let same : None ≡ Some asks.0 = sym at ∙ asks.1 in absurd cc
 denied_asked s subject behind (Some rest) at =
-    denied_as s subject behind rest (denied_by s subject (Some rest)) at (one_found tree.Not (IsDenied s subject rest) asks_over asks_over (λ c. refl) (behind_denial s subject rest) (denial_asked s subject rest))
+    denied_as s subject behind rest (denied_by s subject (Some rest)) at (one_found tree.Not (Plainly s subject rest) asks_over asks_over (λ c. refl) (plain_said s subject rest) (plain_asked s subject rest))
 
 abbrev Parts : Type 0
 Parts = Comparison × List Word
@@ -130,6 +136,9 @@ compared_asked s subject behind (Some parts) at =
 pub asked_found : (s : Scope) (subject behind : List Word) → IsFoundAs (AsksBy s subject behind) asks_over (asked_by s subject behind)
 unfolding asked_by
 asked_found s subject behind =
-    or_found (Plainly s subject behind) (FirstOf (Denied s subject behind) (Compared s subject behind)) asks_over (plain_said s subject behind) (from_denied s subject behind) (plain_asked s subject behind)
-    (or_found (Denied s subject behind) (Compared s subject behind) asks_over (denied_by s subject (behind_not behind)) (compared_by s subject (comparison_at behind)) (denied_asked s subject behind (behind_not behind) refl)
-    (compared_asked s subject behind (comparison_at behind) refl))
+    or_found (Plainly s subject behind) (FirstOf (Denied s subject behind) (FirstOf (DeniedTwice s subject behind) (Compared s subject behind))) asks_over (plain_said s subject behind) (from_denied s subject behind)
+    (plain_asked s subject behind)
+    (or_found (Denied s subject behind) (FirstOf (DeniedTwice s subject behind) (Compared s subject behind)) asks_over (denied_by s subject (behind_not behind)) (from_twice s subject behind)
+    (denied_asked s subject behind (behind_not behind) refl)
+    (or_found (DeniedTwice s subject behind) (Compared s subject behind) asks_over (denied_twice s subject (behind_nots behind)) (compared_by s subject (comparison_at behind))
+    (twice_asked s subject behind (behind_nots behind) refl) (compared_asked s subject behind (comparison_at behind) refl)))

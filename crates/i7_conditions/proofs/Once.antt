@@ -3,24 +3,23 @@ use Rattle.std.proofs.Common.{◌≡◌, ℕ, List, [], ◌∷◌, take, sym, ap
 use Rattle.std.specs.Prelude.{Option, Some, None}
 use Rattle.std.specs.List.{slice_split}
 use Rattle.world_meaning.specs.declared.place.Rel.{Rel}
-use Rattle.play_meaning.specs.Meant.{adjective_meant, quality_meant}
+use Rattle.play_meaning.specs.Meant.{quality_meant}
 use Rattle.play_meaning.specs.Trees as tree
 use Rattle.play_meaning.specs.Trees.{Condition}
-use Rattle.play_meaning.specs.declared.tree.object.Adjective.{Adjective}
 use Rattle.play_meaning.specs.declared.tree.object.Quality.{Quality}
-use Rattle.i7_conditions.specs.Adjectives.{adjective_named, quality_named}
+use Rattle.i7_conditions.specs.Adjectives.{quality_named}
 use Rattle.i7_conditions.specs.Between.{IsParted}
-use Rattle.i7_conditions.specs.Clauses.{Asks, AsksBy, AsksByVerb, AsksIn, Compared, Denied, Does, HasText, InTheDark, IsDenied, NotInTheDark, OfAdjective, OfNumbers, OfObject, OfScene, OfValue, Plainly, asked_of, behind_not, compared, comparison_at, has_value, scene_named, spelling, split_is}
+use Rattle.i7_conditions.specs.Clauses.{Asks, AsksBy, AsksByVerb, AsksIn, Compared, Denied, DeniedTwice, Does, HasText, InTheDark, NotInTheDark, OfAdjective, OfNumbers, OfObject, OfScene, OfValue, Plainly, asked_of, behind_not, behind_nots, compared, comparison_at, has_value, scene_named, spelling, split_is}
 use Rattle.i7_conditions.specs.Conditions.{AsksAll, IsCondition, Joins, JoinsBehind, is_and, is_or}
 use Rattle.i7_conditions.specs.Describing.{Describes}
 use Rattle.i7_conditions.specs.Numbers.{CountsAs}
 use Rattle.i7_conditions.specs.Objects.{Means}
-use Rattle.i7_conditions.specs.Predicates.{Held, HeldByOne, One, Predicate, Same, Says, SaysAdjective, SaysHeld, SaysHeldByOne, SaysOne, SaysSame, SaysSo, So, said_of}
+use Rattle.i7_conditions.specs.Predicates.{Held, HeldByOne, One, Predicate, Same, Says, SaysHeld, SaysHeldByOne, SaysOne, SaysSame, SaysSo, So, said_of}
 use Rattle.i7_conditions.specs.Readings.{FirstOf}
 use Rattle.i7_conditions.specs.Relations.{relation_at}
 use Rattle.i7_conditions.specs.Scopes.{Scope}
 use Rattle.i7_conditions.specs.Values.{SaysValue}
-use Rattle.i7_conditions.specs.Words.{Word, without_article}
+use Rattle.i7_conditions.specs.Words.{Word}
 use Rattle.i7_conditions.specs.declared.comparison.Comparison.{Comparison}
 use Rattle.i7_conditions.specs.declared.verb.Verb.{Verb}
 use Rattle.i7_conditions.specs.declared.verb.Verb.TheVariants.{Carries, Encloses, Has, Wears}
@@ -34,17 +33,20 @@ use Rattle.i7_conditions.proofs.Valued.{value_once}
 
 -- ---- clauses with an `is`
 
+so_once : (s : Scope) (words : List Word) → IsOnce (SaysSo s words)
+so_once s words = at_once (quality_named s words) (λ (q : Quality) (p : Predicate). p ≡ So (quality_meant q)) (λ q p r e f. e ∙ sym f)
+
 says_once : (s : Scope) (words : List Word) → IsOnce (Says s words)
 says_once s words =
     first_once (SaysSo s words) (FirstOf (SaysOne s words) (FirstOf (SaysSame s words) (FirstOf (SaysHeld s words) (SaysHeldByOne s words))))
-    (at_once (quality_named s words) (λ (q : Quality) (p : Predicate). p ≡ So (quality_meant q)) (λ q p r e f. e ∙ sym f))
+    (so_once s words)
     (first_once (SaysOne s words) (FirstOf (SaysSame s words) (FirstOf (SaysHeld s words) (SaysHeldByOne s words)))
-    (made_once One (Describes s (without_article words)) (described_once s (without_article words)))
+    (made_once One (Describes s words) (described_once s words))
     (first_once (SaysSame s words) (FirstOf (SaysHeld s words) (SaysHeldByOne s words)) (made_once Same (Means s words) (meant_once s words))
     (first_once (SaysHeld s words) (SaysHeldByOne s words)
     (at_once (relation_at words) (λ (parts : Rel × List Word). Made (Held parts.0) (Means s parts.1)) (λ parts. made_once (Held parts.0) (Means s parts.1) (meant_once s parts.1)))
-    (at_once (relation_at words) (λ (parts : Rel × List Word). Made (HeldByOne parts.0) (Describes s (without_article parts.1)))
-    (λ parts. made_once (HeldByOne parts.0) (Describes s (without_article parts.1)) (described_once s (without_article parts.1)))))))
+    (at_once (relation_at words) (λ (parts : Rel × List Word). Made (HeldByOne parts.0) (Describes s parts.1))
+    (λ parts. made_once (HeldByOne parts.0) (Describes s parts.1) (described_once s parts.1))))))
 
 plainly_once : (s : Scope) (subject behind : List Word) → IsOnce (Plainly s subject behind)
 plainly_once s subject behind =
@@ -53,21 +55,15 @@ plainly_once s subject behind =
     (first_once (OfNumbers s subject behind) (OfScene s subject behind) (two_once tree.Equals (CountsAs s subject) (CountsAs s behind) (counted_once s subject) (counted_once s behind))
     (λ c d a b. at_once (scene_named s subject) (λ (k : ℕ) (c : Condition). c ≡ tree.Happens k) (λ k c d e f. e ∙ sym f) c d (a.0, a.1, a.3) (b.0, b.1, b.3))))
 
-adjective_once : (s : Scope) (words : List Word) → IsOnce (SaysAdjective s words)
-adjective_once s words = at_once (adjective_named s words) (λ (a : Adjective) (p : Predicate). p ≡ So (adjective_meant a)) (λ a p r e f. e ∙ sym f)
-
-denial_once : (s : Scope) (subject rest : List Word) → IsOnce (IsDenied s subject rest)
-denial_once s subject rest =
-    first_once (Plainly s subject rest) (OfAdjective s subject rest) (plainly_once s subject rest)
-    (two_once said_of (Means s subject) (SaysAdjective s rest) (meant_once s subject) (adjective_once s rest))
-
 asked_once : (s : Scope) (subject behind : List Word) → IsOnce (AsksBy s subject behind)
 asked_once s subject behind =
-    first_once (Plainly s subject behind) (FirstOf (Denied s subject behind) (Compared s subject behind)) (plainly_once s subject behind)
-    (first_once (Denied s subject behind) (Compared s subject behind)
-    (at_once (behind_not behind) (λ (rest : List Word). Made tree.Not (IsDenied s subject rest)) (λ rest. made_once tree.Not (IsDenied s subject rest) (denial_once s subject rest)))
+    first_once (Plainly s subject behind) (FirstOf (Denied s subject behind) (FirstOf (DeniedTwice s subject behind) (Compared s subject behind))) (plainly_once s subject behind)
+    (first_once (Denied s subject behind) (FirstOf (DeniedTwice s subject behind) (Compared s subject behind))
+    (at_once (behind_not behind) (λ (rest : List Word). Made tree.Not (Plainly s subject rest)) (λ rest. made_once tree.Not (Plainly s subject rest) (plainly_once s subject rest)))
+    (first_once (DeniedTwice s subject behind) (Compared s subject behind)
+    (at_once (behind_nots behind) (λ (rest : List Word). OfAdjective s subject rest) (λ rest. two_once said_of (Means s subject) (SaysSo s rest) (meant_once s subject) (so_once s rest)))
     (at_once (comparison_at behind) (λ (parts : Comparison × List Word) (c : Condition). (m : tree.Number) × (n : tree.Number) × CountsAs s subject m × CountsAs s parts.1 n × (c ≡ compared parts.0 m n))
-    (λ parts. two_once (compared parts.0) (CountsAs s subject) (CountsAs s parts.1) (counted_once s subject) (counted_once s parts.1))))
+    (λ parts. two_once (compared parts.0) (CountsAs s subject) (CountsAs s parts.1) (counted_once s subject) (counted_once s parts.1)))))
 
 -- ---- clauses without one
 

@@ -4,17 +4,16 @@ use Rattle.std.specs.Prelude.{Option, Some, None}
 use Rattle.world_meaning.specs.declared.place.Rel.{Rel}
 use Rattle.world_meaning.specs.declared.place.Rel.TheVariants.{In}
 use Rattle.play_meaning.specs.Trees as tree
-use Rattle.play_meaning.specs.declared.tree.object.Adjective.{Adjective}
 use Rattle.play_meaning.specs.declared.tree.object.Quality.{Quality}
-use Rattle.i7_conditions.specs.Adjectives.{adjective_named, quality_named}
+use Rattle.i7_conditions.specs.Adjectives.{quality_named}
 use Rattle.i7_conditions.specs.Describing.{Describes, IsDescriptionFound, adjectives_in, froms_in}
 use Rattle.i7_conditions.specs.Descriptions.{description_said}
 use Rattle.i7_conditions.specs.Objects.{IsObjectFound, Means, froms}
-use Rattle.i7_conditions.specs.Predicates.{Held, HeldByOne, One, Predicate, Same, Says, SaysAdjective, SaysHeld, SaysHeldByOne, SaysOne, SaysSame, SaysSo, adjective_by, from_held, from_one, from_same, held_by_one_said, held_said, is_deep, is_long, is_over, object_said, predicate_said, so_by}
+use Rattle.i7_conditions.specs.Predicates.{Held, HeldByOne, One, Predicate, Same, Says, SaysHeld, SaysHeldByOne, SaysOne, SaysSame, SaysSo, from_held, from_one, from_same, held_by_one_said, held_said, is_deep, is_long, is_over, object_said, predicate_said, so_by}
 use Rattle.i7_conditions.specs.Readings.{FirstOf, IsFoundAs, one}
 use Rattle.i7_conditions.specs.Relations.{relation_at}
 use Rattle.i7_conditions.specs.Scopes.{Scope}
-use Rattle.i7_conditions.specs.Words.{Word, without_article}
+use Rattle.i7_conditions.specs.Words.{Word}
 use Rattle.i7_conditions.specs.declared.found.Found.{Found}
 use Rattle.i7_conditions.specs.declared.found.Found.TheVariants.{Read, TooMany, Unread}
 use Rattle.i7_conditions.proofs.Described.{descriptions_found}
@@ -40,7 +39,7 @@ description_found s words = description_as s words (description_said s words) (d
 
 -- ---- each form
 
-so_found : (s : Scope) (words : List Word) (found : Option Quality) → quality_named s words ≡ found → IsFoundAs (SaysSo s words) is_over (so_by found)
+pub so_found : (s : Scope) (words : List Word) (found : Option Quality) → quality_named s words ≡ found → IsFoundAs (SaysSo s words) is_over (so_by found)
 so_found s words None e = λ p says. let same : None ≡ Some says.0 = sym e ∙ says.1 in absurd cc
 so_found s words (Some a) e = ((a, e, refl), refl)
 
@@ -62,33 +61,26 @@ held_found s words None at = λ p says. let same : None ≡ Some says.0 = sym at
 held_found s words (Some parts) at =
     held_as s words parts (held_said s (Some parts)) at (one_found (Held parts.0) (Means s parts.1) is_deep is_over (λ o. refl) (object_said s parts.1) (object_found s parts.1))
 
-by_one_as : (s : Scope) (words : List Word) (parts : Behind) (found : Found Predicate) → relation_at words ≡ Some parts → IsFoundAs (Made (HeldByOne parts.0) (Describes s (without_article parts.1))) is_over found
+by_one_as : (s : Scope) (words : List Word) (parts : Behind) (found : Found Predicate) → relation_at words ≡ Some parts → IsFoundAs (Made (HeldByOne parts.0) (Describes s parts.1)) is_over found
     → IsFoundAs (SaysHeldByOne s words) is_over found
 by_one_as s words parts (Read p) at h = ((parts, at, h.0), h.1)
 by_one_as s words parts TooMany at h = (h.0, (parts, at, h.1), h.2)
 by_one_as s words parts Unread at h = λ p says.
-    h p (subst (λ (q : Behind). Made (HeldByOne q.0) (Describes s (without_article q.1)) p) (ap behind_in (sym says.1 ∙ at)) says.2)
+    h p (subst (λ (q : Behind). Made (HeldByOne q.0) (Describes s q.1) p) (ap behind_in (sym says.1 ∙ at)) says.2)
 
 by_one_found : (s : Scope) (words : List Word) (found : Option Behind) → relation_at words ≡ found → IsFoundAs (SaysHeldByOne s words) is_over (held_by_one_said s found)
 by_one_found s words None at = λ p says. let same : None ≡ Some says.0 = sym at ∙ says.1 in absurd cc
 by_one_found s words (Some parts) at =
     by_one_as s words parts (held_by_one_said s (Some parts)) at
-    (one_found (HeldByOne parts.0) (Describes s (without_article parts.1)) is_long is_over (λ d. refl) (description_said s (without_article parts.1)) (description_found s (without_article parts.1)))
+    (one_found (HeldByOne parts.0) (Describes s parts.1) is_long is_over (λ d. refl) (description_said s parts.1) (description_found s parts.1))
 
 pub predicate_found : (s : Scope) (words : List Word) → IsFoundAs (Says s words) is_over (predicate_said s words)
 unfolding predicate_said
 predicate_found s words =
     or_found (SaysSo s words) (FirstOf (SaysOne s words) (FirstOf (SaysSame s words) (FirstOf (SaysHeld s words) (SaysHeldByOne s words)))) is_over (so_by (quality_named s words)) (from_one s words)
     (so_found s words (quality_named s words) refl)
-    (or_found (SaysOne s words) (FirstOf (SaysSame s words) (FirstOf (SaysHeld s words) (SaysHeldByOne s words))) is_over (one One (description_said s (without_article words))) (from_same s words)
-    (one_found One (Describes s (without_article words)) is_long is_over (λ d. refl) (description_said s (without_article words)) (description_found s (without_article words)))
+    (or_found (SaysOne s words) (FirstOf (SaysSame s words) (FirstOf (SaysHeld s words) (SaysHeldByOne s words))) is_over (one One (description_said s words)) (from_same s words)
+    (one_found One (Describes s words) is_long is_over (λ d. refl) (description_said s words) (description_found s words))
     (or_found (SaysSame s words) (FirstOf (SaysHeld s words) (SaysHeldByOne s words)) is_over (one Same (object_said s words)) (from_held s (relation_at words))
     (one_found Same (Means s words) is_deep is_over (λ o. refl) (object_said s words) (object_found s words))
     (or_found (SaysHeld s words) (SaysHeldByOne s words) is_over (held_said s (relation_at words)) (held_by_one_said s (relation_at words)) (held_found s words (relation_at words) refl) (by_one_found s words (relation_at words) refl))))
-
-adjective_as : (s : Scope) (words : List Word) (found : Option Adjective) → adjective_named s words ≡ found → IsFoundAs (SaysAdjective s words) is_over (adjective_by found)
-adjective_as s words None e = λ p says. let same : None ≡ Some says.0 = sym e ∙ says.1 in absurd cc
-adjective_as s words (Some a) e = ((a, e, refl), refl)
-
-pub adjective_found : (s : Scope) (words : List Word) → IsFoundAs (SaysAdjective s words) is_over (adjective_by (adjective_named s words))
-adjective_found s words = adjective_as s words (adjective_named s words) refl

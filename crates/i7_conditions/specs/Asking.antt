@@ -4,10 +4,10 @@ use Rattle.play_meaning.specs.Meant.{basic_meant, clause_meant}
 use Rattle.play_meaning.specs.Trees as tree
 use Rattle.play_meaning.specs.declared.tree.condition.Basic.{Basic}
 use Rattle.play_meaning.specs.declared.tree.condition.Clause.{Clause}
-use Rattle.i7_conditions.specs.Adjectives.{adjective_named}
-use Rattle.i7_conditions.specs.Clauses.{behind_not, compared, comparison_at, has_value, is_happening, scene_named}
+use Rattle.i7_conditions.specs.Adjectives.{quality_named}
+use Rattle.i7_conditions.specs.Clauses.{behind_not, behind_nots, compared, comparison_at, has_value, is_happening, scene_named}
 use Rattle.i7_conditions.specs.Joining.{number_said}
-use Rattle.i7_conditions.specs.Predicates.{adjective_by, object_said, predicate_said, said_of}
+use Rattle.i7_conditions.specs.Predicates.{object_said, predicate_said, said_of, so_by}
 use Rattle.i7_conditions.specs.Readings.{one, or_else, two}
 use Rattle.i7_conditions.specs.Scopes.{Scope}
 use Rattle.i7_conditions.specs.Values.{value_said}
@@ -51,22 +51,26 @@ from_object s subject predicate = or_else (of_object s subject predicate) (from_
 unfoldable pub plain_said : Scope → List Word → List Word → Found tree.Condition
 plain_said s subject predicate = or_else (of_value s subject predicate) (from_object s subject predicate)
 
-abbrev pub of_adjective : Scope → List Word → List Word → Found tree.Condition
-of_adjective s subject predicate = two said_of (object_said s subject) (adjective_by (adjective_named s predicate))
-
-abbrev pub behind_denial : Scope → List Word → List Word → Found tree.Condition
-behind_denial s subject rest = or_else (plain_said s subject rest) (of_adjective s subject rest)
-
 abbrev pub denied_by : Scope → List Word → Option (List Word) → Found tree.Condition
 denied_by s subject None = Unread
-denied_by s subject (Some rest) = one tree.Not (behind_denial s subject rest)
+denied_by s subject (Some rest) = one tree.Not (plain_said s subject rest)
+
+abbrev pub of_adjective : Scope → List Word → List Word → Found tree.Condition
+of_adjective s subject words = two said_of (object_said s subject) (so_by (quality_named s words))
+
+abbrev pub denied_twice : Scope → List Word → Option (List Word) → Found tree.Condition
+denied_twice s subject None = Unread
+denied_twice s subject (Some rest) = of_adjective s subject rest
 
 abbrev pub compared_by : Scope → List Word → Option (Comparison × List Word) → Found tree.Condition
 compared_by s subject None = Unread
 compared_by s subject (Some parts) = two (compared parts.0) (number_said s subject) (number_said s parts.1)
 
+abbrev pub from_twice : Scope → List Word → List Word → Found tree.Condition
+from_twice s subject predicate = or_else (denied_twice s subject (behind_nots predicate)) (compared_by s subject (comparison_at predicate))
+
 abbrev pub from_denied : Scope → List Word → List Word → Found tree.Condition
-from_denied s subject predicate = or_else (denied_by s subject (behind_not predicate)) (compared_by s subject (comparison_at predicate))
+from_denied s subject predicate = or_else (denied_by s subject (behind_not predicate)) (from_twice s subject predicate)
 
 unfoldable pub asked_by : Scope → List Word → List Word → Found tree.Condition
 asked_by s subject predicate = or_else (plain_said s subject predicate) (from_denied s subject predicate)

@@ -8,7 +8,7 @@ use Rattle.i7_conditions.specs.Between.{Both, IsParted}
 use Rattle.i7_conditions.specs.Keys.{around, known, plain_key}
 use Rattle.i7_conditions.specs.Numbers.{CountsAs}
 use Rattle.i7_conditions.specs.Objects.{Means}
-use Rattle.i7_conditions.specs.Predicates.{Predicate, Says, SaysAdjective, is_deep, is_long, said_of}
+use Rattle.i7_conditions.specs.Predicates.{Predicate, Says, SaysSo, is_deep, is_long, said_of}
 use Rattle.i7_conditions.specs.Readings.{FirstOf}
 use Rattle.i7_conditions.specs.Scopes.{Scope}
 use Rattle.i7_conditions.specs.Terms.{is_over}
@@ -67,15 +67,20 @@ abbrev pub behind_not : List Word → Option (List Word)
 behind_not [] = None
 behind_not (word ∷ words) = if is_not word then Some words else None
 
-abbrev pub OfAdjective : Scope → List Word → List Word → tree.Condition → Type 0
-OfAdjective s subject predicate c = (o : tree.Object) × (p : Predicate) × Means s subject o × SaysAdjective s predicate p × (c ≡ said_of o p)
-
-abbrev pub IsDenied : Scope → List Word → List Word → tree.Condition → Type 0
-IsDenied s subject rest = FirstOf (Plainly s subject rest) (OfAdjective s subject rest)
-
 -- `is not`
 abbrev pub Denied : Scope → List Word → List Word → tree.Condition → Type 0
-Denied s subject predicate c = (rest : List Word) × (behind_not predicate ≡ Some rest) × ((d : tree.Condition) × IsDenied s subject rest d × (c ≡ tree.Not d))
+Denied s subject predicate c = (rest : List Word) × (behind_not predicate ≡ Some rest) × ((d : tree.Condition) × Plainly s subject rest d × (c ≡ tree.Not d))
+
+abbrev pub behind_nots : List Word → Option (List Word)
+behind_nots [] = None
+behind_nots (word ∷ words) = if is_not word then behind_not words else None
+
+abbrev pub OfAdjective : Scope → List Word → List Word → tree.Condition → Type 0
+OfAdjective s subject words c = (o : tree.Object) × (p : Predicate) × Means s subject o × SaysSo s words p × (c ≡ said_of o p)
+
+-- `is not not ADJECTIVE`: what is denied twice is so, also of nothing, of which no adjective is
+abbrev pub DeniedTwice : Scope → List Word → List Word → tree.Condition → Type 0
+DeniedTwice s subject predicate c = (rest : List Word) × (behind_nots predicate ≡ Some rest) × OfAdjective s subject rest c
 
 abbrev pub compared : Comparison → tree.Number → tree.Number → tree.Condition
 compared Greater a b = tree.IsLess b a
@@ -103,7 +108,8 @@ Compared s subject predicate c =
     (parts : Comparison × List Word) × (comparison_at predicate ≡ Some parts) × ((m : tree.Number) × (n : tree.Number) × CountsAs s subject m × CountsAs s parts.1 n × (c ≡ compared parts.0 m n))
 
 abbrev pub AsksBy : Scope → List Word → List Word → tree.Condition → Type 0
-AsksBy s subject predicate = FirstOf (Plainly s subject predicate) (FirstOf (Denied s subject predicate) (Compared s subject predicate))
+AsksBy s subject predicate =
+    FirstOf (Plainly s subject predicate) (FirstOf (Denied s subject predicate) (FirstOf (DeniedTwice s subject predicate) (Compared s subject predicate)))
 
 -- ---- verbs
 

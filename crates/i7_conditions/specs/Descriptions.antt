@@ -10,7 +10,7 @@ use Rattle.i7_conditions.specs.Marks.{marks_of}
 use Rattle.i7_conditions.specs.Parts.{put_together}
 use Rattle.i7_conditions.specs.Relations.{before_relation, relation_at}
 use Rattle.i7_conditions.specs.Scopes.{Scope}
-use Rattle.i7_conditions.specs.Words.{Word}
+use Rattle.i7_conditions.specs.Words.{Word, without_article}
 use Rattle.i7_conditions.specs.declared.found.Found.{Found}
 use Rattle.i7_conditions.specs.declared.found.Found.TheVariants.{Read, TooMany, Unread}
 use Rattle.i7_conditions.specs.declared.front.Front.{Front}
@@ -48,8 +48,12 @@ front_and s None behind = Unread
 front_and s (Some front) behind = with_front s front behind
 
 -- what stands in front of the first relation is adjectives and a kind, what stands behind it is an object
+unfoldable pub bare_said : Scope → List Word → Found tree.Description
+bare_said s words = front_and s (front_said s (take (before_relation words) words)) (drop (before_relation words) words)
+
+-- one article in front is free
 unfoldable pub description_said : Scope → List Word → Found tree.Description
-description_said s words = front_and s (front_said s (take (before_relation words) words)) (drop (before_relation words) words)
+description_said s words = bare_said s (without_article words)
 
 abbrev pub found_described : Found Description → Found tree.Description
 found_described (Read d) = Read (description_meant d)

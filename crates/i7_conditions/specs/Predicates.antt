@@ -3,9 +3,8 @@ use Rattle.std.specs.Prelude.{◌≡◌, Bool, false, ◌||◌, nat_lt, List, Op
 use Rattle.world_meaning.specs.declared.place.Rel.{Rel}
 use Rattle.play_meaning.specs.Meant.{adjective_meant, description_meant, object_meant, quality_meant}
 use Rattle.play_meaning.specs.Trees as tree
-use Rattle.play_meaning.specs.declared.tree.object.Adjective.{Adjective}
 use Rattle.play_meaning.specs.declared.tree.object.Quality.{Quality}
-use Rattle.i7_conditions.specs.Adjectives.{adjective_named, quality_named}
+use Rattle.i7_conditions.specs.Adjectives.{quality_named}
 use Rattle.i7_conditions.specs.Describing.{Describes, adjectives_in, froms_in}
 use Rattle.i7_conditions.specs.Descriptions.{description_said}
 use Rattle.i7_conditions.specs.Marks.{marks_of}
@@ -14,7 +13,7 @@ use Rattle.i7_conditions.specs.Parts.{put_together}
 use Rattle.i7_conditions.specs.Readings.{FirstOf, one, or_else}
 use Rattle.i7_conditions.specs.Relations.{relation_at}
 use Rattle.i7_conditions.specs.Scopes.{Scope}
-use Rattle.i7_conditions.specs.Words.{Word, without_article}
+use Rattle.i7_conditions.specs.Words.{Word}
 use Rattle.i7_conditions.specs.declared.found.Found.{Found}
 use Rattle.i7_conditions.specs.declared.found.Found.TheVariants.{Read, TooMany, Unread}
 use Rattle.i7_conditions.specs.declared.predicate.Predicate.{Predicate as Kept}
@@ -55,9 +54,8 @@ is_over (HeldByOne relation description) = is_long description
 abbrev pub SaysSo : Scope → List Word → Predicate → Type 0
 SaysSo s words p = (q : Quality) × (quality_named s words ≡ Some q) × (p ≡ So (quality_meant q))
 
--- a description may have one
 abbrev pub SaysOne : Scope → List Word → Predicate → Type 0
-SaysOne s words p = (d : tree.Description) × Describes s (without_article words) d × (p ≡ One d)
+SaysOne s words p = (d : tree.Description) × Describes s words d × (p ≡ One d)
 
 abbrev pub SaysSame : Scope → List Word → Predicate → Type 0
 SaysSame s words p = (o : tree.Object) × Means s words o × (p ≡ Same o)
@@ -66,14 +64,10 @@ abbrev pub SaysHeld : Scope → List Word → Predicate → Type 0
 SaysHeld s words p = (parts : Rel × List Word) × (relation_at words ≡ Some parts) × ((o : tree.Object) × Means s parts.1 o × (p ≡ Held parts.0 o))
 
 abbrev pub SaysHeldByOne : Scope → List Word → Predicate → Type 0
-SaysHeldByOne s words p = (parts : Rel × List Word) × (relation_at words ≡ Some parts) × ((d : tree.Description) × Describes s (without_article parts.1) d × (p ≡ HeldByOne parts.0 d))
+SaysHeldByOne s words p = (parts : Rel × List Word) × (relation_at words ≡ Some parts) × ((d : tree.Description) × Describes s parts.1 d × (p ≡ HeldByOne parts.0 d))
 
 abbrev pub Says : Scope → List Word → Predicate → Type 0
 Says s words = FirstOf (SaysSo s words) (FirstOf (SaysOne s words) (FirstOf (SaysSame s words) (FirstOf (SaysHeld s words) (SaysHeldByOne s words))))
-
--- behind `is not`, an adjective may have a `not` of its own, which denies the adjective alone
-abbrev pub SaysAdjective : Scope → List Word → Predicate → Type 0
-SaysAdjective s words p = (a : Adjective) × (adjective_named s words ≡ Some a) × (p ≡ So (adjective_meant a))
 
 -- ---- by their words
 
@@ -84,17 +78,13 @@ abbrev pub so_by : Option Quality → Found Predicate
 so_by None = Unread
 so_by (Some q) = Read (So (quality_meant q))
 
-abbrev pub adjective_by : Option Adjective → Found Predicate
-adjective_by None = Unread
-adjective_by (Some a) = Read (So (adjective_meant a))
-
 abbrev pub held_said : Scope → Option (Rel × List Word) → Found Predicate
 held_said s None = Unread
 held_said s (Some parts) = one (Held parts.0) (object_said s parts.1)
 
 abbrev pub held_by_one_said : Scope → Option (Rel × List Word) → Found Predicate
 held_by_one_said s None = Unread
-held_by_one_said s (Some parts) = one (HeldByOne parts.0) (description_said s (without_article parts.1))
+held_by_one_said s (Some parts) = one (HeldByOne parts.0) (description_said s parts.1)
 
 abbrev pub from_held : Scope → Option (Rel × List Word) → Found Predicate
 from_held s parts = or_else (held_said s parts) (held_by_one_said s parts)
@@ -103,7 +93,7 @@ abbrev pub from_same : Scope → List Word → Found Predicate
 from_same s words = or_else (one Same (object_said s words)) (from_held s (relation_at words))
 
 abbrev pub from_one : Scope → List Word → Found Predicate
-from_one s words = or_else (one One (description_said s (without_article words))) (from_same s words)
+from_one s words = or_else (one One (description_said s words)) (from_same s words)
 
 unfoldable pub predicate_said : Scope → List Word → Found Predicate
 predicate_said s words = or_else (so_by (quality_named s words)) (from_one s words)

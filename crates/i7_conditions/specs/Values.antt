@@ -10,7 +10,7 @@ use Rattle.i7_conditions.specs.Objects.{Means}
 use Rattle.i7_conditions.specs.Predicates.{is_deep, object_said}
 use Rattle.i7_conditions.specs.Readings.{one}
 use Rattle.i7_conditions.specs.Scopes.{Scope}
-use Rattle.i7_conditions.specs.Words.{Word}
+use Rattle.i7_conditions.specs.Words.{Word, without_article}
 use Rattle.i7_conditions.specs.declared.found.Found.{Found}
 use Rattle.i7_conditions.specs.declared.found.Found.TheVariants.{Read, TooMany, Unread}
 use Rattle.i7_conditions.specs.declared.value.Valuing.{Valuing as Kept}
@@ -35,9 +35,9 @@ value_in kind None = None
 value_in kind (Some (quality.Valued q value)) = if q == kind then Some value else None
 value_in kind (Some _) = None
 
--- the value of this kind that words name, which has no article
+-- the value of this kind that words name, one article in front being free
 abbrev pub value_named : Scope → ℕ → List Word → Option ℕ
-value_named s kind words = value_in kind (quality_named s words)
+value_named s kind words = value_in kind (quality_named s (without_article words))
 
 abbrev pub with_object : Option ℕ → List Word → Option (ℕ × List Word)
 with_object None object = None

@@ -2,8 +2,8 @@
 ghost use Rattle.std.specs.Prelude.{◌≡◌, ◌≤◌, length, Some, option_map, IfOk};
 ghost use Rattle.play_meaning.specs.Meant.{not_if};
 ghost use Rattle.play_meaning.specs.Trees as tree;
-ghost use Rattle.i7_conditions.specs.Asking.{asked_by, behind_denial, compared_by, denied_by, found_basic, found_clause, from_denied, from_numbers, from_object, of_adjective, of_numbers, of_object, of_scene, plain_said};
-ghost use Rattle.i7_conditions.specs.Clauses.{behind_not, compared, comparison_at, has_value, is_happening, scene_in, scene_named};
+ghost use Rattle.i7_conditions.specs.Asking.{asked_by, compared_by, denied_by, denied_twice, found_basic, found_clause, from_denied, from_numbers, from_object, from_twice, of_numbers, of_object, of_scene, plain_said};
+ghost use Rattle.i7_conditions.specs.Clauses.{behind_not, behind_nots, compared, comparison_at, has_value, is_happening, scene_in, scene_named};
 ghost use Rattle.i7_conditions.specs.Joining.{found_number};
 ghost use Rattle.i7_conditions.specs.Objects.{found_meant};
 ghost use Rattle.i7_conditions.specs.Predicates.{found_predicate, said_of};
@@ -17,7 +17,7 @@ use crate::joining::number_said;
 use crate::key::known;
 use crate::meaning::Meaning;
 use crate::object::object_said;
-use crate::predicate::{Predicate, adjective_said, plainly, predicate_said, said_of};
+use crate::predicate::{Predicate, plainly, predicate_said, said_of, so_said};
 use crate::scope::Scope;
 use crate::value::{Valuing, value_said};
 use crate::word::is_not;
@@ -233,37 +233,6 @@ pub fn behind_not(words: &[TextBytes]) -> Option<&[TextBytes]>
     }
 }
 
-/// Whether an adjective, perhaps behind a `not` of its own, is so of an object.
-fn of_adjective(
-    alloc: Global,
-    scope: &Scope<'_>,
-    subject: &[TextBytes],
-    predicate: &[TextBytes],
-) -> Result<Found<Basic>, AllocError>
-    requires few { length (scope_of scope.now).repeats ≤ 255 }
-    ensures { IfOk result (λ found. found_basic found ≡ of_adjective (scope_of scope.now) subject.now predicate.now) }
-{
-    let object = object_said(alloc, scope, subject)?;
-    let said = adjective_said(alloc, scope, predicate)?;
-    Ok(of_object(object, said))
-}
-
-/// What is asked behind `is not`: plainly, or by an adjective that has a `not` of its own.
-fn behind_denial(
-    alloc: Global,
-    scope: &Scope<'_>,
-    subject: &[TextBytes],
-    rest: &[TextBytes],
-) -> Result<Found<Basic>, AllocError>
-    requires few { length (scope_of scope.now).repeats ≤ 255 }
-    ensures { IfOk result (λ found. found_basic found ≡ behind_denial (scope_of scope.now) subject.now rest.now) }
-{
-    match plain_said(alloc, scope, subject, rest)? {
-        Found::Unread => Ok(of_adjective(alloc, scope, subject, rest)?),
-        found => Ok(found),
-    }
-}
-
 /// `is not` in front of what is asked.
 fn denied_by(
     alloc: Global,
@@ -277,8 +246,38 @@ fn denied_by(
     match behind_not(predicate) {
         None => Ok(Found::Unread),
         Some(rest) => {
-            let found = behind_denial(alloc, scope, subject, rest)?;
+            let found = plain_said(alloc, scope, subject, rest)?;
             Ok(clause(found, true))
+        }
+    }
+}
+
+/// The words behind two `not`s.
+fn behind_nots(words: &[TextBytes]) -> Option<&[TextBytes]>
+    ensures { option_map (λ rest. rest.now) result ≡ behind_nots words.now }
+{
+    match words {
+        [] => None,
+        [word, rest @ ..] => { if is_not(word) { behind_not(rest) } else { None } }
+    }
+}
+
+/// `is not not` in front of an adjective, which is so where it is denied twice.
+fn denied_twice(
+    alloc: Global,
+    scope: &Scope<'_>,
+    subject: &[TextBytes],
+    predicate: &[TextBytes],
+) -> Result<Found<Clause>, AllocError>
+    requires few { length (scope_of scope.now).repeats ≤ 255 }
+    ensures { IfOk result (λ found. found_clause found ≡ denied_twice (scope_of scope.now) subject.now (behind_nots predicate.now)) }
+{
+    match behind_nots(predicate) {
+        None => Ok(Found::Unread),
+        Some(rest) => {
+            let object = object_said(alloc, scope, subject)?;
+            let said = so_said(alloc, scope, rest)?;
+            Ok(clause(of_object(object, said), false))
         }
     }
 }
@@ -303,7 +302,23 @@ fn compared_by(
     }
 }
 
-/// What is denied, or else compared.
+/// What is denied twice, or else compared.
+fn from_twice(
+    alloc: Global,
+    scope: &Scope<'_>,
+    subject: &[TextBytes],
+    predicate: &[TextBytes],
+) -> Result<Found<Clause>, AllocError>
+    requires few { length (scope_of scope.now).repeats ≤ 255 }
+    ensures { IfOk result (λ found. found_clause found ≡ from_twice (scope_of scope.now) subject.now predicate.now) }
+{
+    match denied_twice(alloc, scope, subject, predicate)? {
+        Found::Unread => Ok(compared_by(alloc, scope, subject, predicate)?),
+        found => Ok(found),
+    }
+}
+
+/// What is denied, or else denied twice or compared.
 fn from_denied(
     alloc: Global,
     scope: &Scope<'_>,
@@ -314,7 +329,7 @@ fn from_denied(
     ensures { IfOk result (λ found. found_clause found ≡ from_denied (scope_of scope.now) subject.now predicate.now) }
 {
     match denied_by(alloc, scope, subject, predicate)? {
-        Found::Unread => Ok(compared_by(alloc, scope, subject, predicate)?),
+        Found::Unread => Ok(from_twice(alloc, scope, subject, predicate)?),
         found => Ok(found),
     }
 }

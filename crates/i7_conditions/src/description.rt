@@ -1,7 +1,6 @@
-//! Descriptions by their words (*Writing with Inform*, chapter 6): `closed containers`, `a lit thing carried by the player`
-//! without its article.
+//! Descriptions by their words (*Writing with Inform*, chapter 6): `closed containers`, `a lit thing carried by the player`.
 ghost use Rattle.std.specs.Prelude.{◌≡◌, ◌≤◌, List, length, IfOk};
-ghost use Rattle.i7_conditions.specs.Descriptions.{description_said, described, found_described, held_in, with_front, with_holder};
+ghost use Rattle.i7_conditions.specs.Descriptions.{bare_said, description_said, described, found_described, held_in, with_front, with_holder};
 ghost use Rattle.i7_conditions.specs.Describing.{Describes, IsDescriptionFound};
 ghost use Rattle.i7_conditions.specs.Objects.{found_meant};
 ghost use Rattle.i7_conditions.specs.Scopes.{Scope as Names, scope_of};
@@ -13,6 +12,7 @@ use crate::front::{Front, front_of};
 use crate::object::object_said;
 use crate::relation::{before_relation, relation_at};
 use crate::scope::Scope;
+use crate::word::without_article;
 use play_meaning::tree::{Description, Held, Referent};
 use std::alloc::{AllocError, Global};
 use world_meaning::{Rel, TextBytes};
@@ -64,7 +64,24 @@ fn with_front(
     }
 }
 
-/// The description that words are.
+/// The description that words without an article are.
+#[tactic(auto, unfolding(crate::specs::Descriptions::bare_said))]
+fn bare_said(
+    alloc: Global,
+    scope: &Scope<'_>,
+    words: &[TextBytes],
+) -> Result<Found<Description>, AllocError>
+    requires few { length (scope_of scope.now).repeats ≤ 255 }
+    ensures { IfOk result (λ found. found_described found ≡ bare_said (scope_of scope.now) words.now) }
+{
+    let (front, behind) = words.split_at(before_relation(words));
+    match front_of(alloc, scope, front)? {
+        None => Ok(Found::Unread),
+        Some(front) => with_front(alloc, scope, front, behind),
+    }
+}
+
+/// The description that words are, one article in front being free.
 #[tactic(auto, unfolding(crate::specs::Descriptions::description_said))]
 pub fn description_said(
     alloc: Global,
@@ -74,11 +91,7 @@ pub fn description_said(
     requires few { length (scope_of scope.now).repeats ≤ 255 }
     ensures { IfOk result (λ found. found_described found ≡ description_said (scope_of scope.now) words.now) }
 {
-    let (front, behind) = words.split_at(before_relation(words));
-    match front_of(alloc, scope, front)? {
-        None => Ok(Found::Unread),
-        Some(front) => with_front(alloc, scope, front, behind),
-    }
+    bare_said(alloc, scope, without_article(words))
 }
 
 /// The description that words are; one of more than 9 adjectives is too many, or one whose holder is.

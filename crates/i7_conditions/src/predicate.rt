@@ -2,20 +2,19 @@
 //! holds it.
 ghost use Rattle.std.specs.Prelude.{◌≡◌, ◌≤◌, length, Some, IfOk};
 ghost use Rattle.play_meaning.specs.Meant.{adjective_meant, basic_meant, object_meant, quality_meant};
-ghost use Rattle.i7_conditions.specs.Adjectives.{adjective_named};
+ghost use Rattle.i7_conditions.specs.Adjectives.{quality_named};
 ghost use Rattle.i7_conditions.specs.Descriptions.{found_described};
-ghost use Rattle.i7_conditions.specs.Predicates.{HeldByOne as IsHeldByOne, One as IsOne, Same as IsSame, Held as IsHeld, adjective_by, found_predicate, from_held, from_one, from_same, predicate_meant, predicate_said, said_of};
+ghost use Rattle.i7_conditions.specs.Predicates.{HeldByOne as IsHeldByOne, One as IsOne, Same as IsSame, Held as IsHeld, found_predicate, from_held, from_one, from_same, predicate_meant, predicate_said, said_of, so_by};
 ghost use Rattle.i7_conditions.specs.Readings.{one};
 ghost use Rattle.i7_conditions.specs.Relations.{relation_at};
 ghost use Rattle.i7_conditions.specs.Scopes.{scope_of};
 
-use crate::adjective::{adjective_named, quality_named};
+use crate::adjective::quality_named;
 use crate::description::description_said;
 use crate::found::Found;
 use crate::object::object_said;
 use crate::relation::relation_at;
 use crate::scope::Scope;
-use crate::word::without_article;
 use play_meaning::tree::{Adjective, Basic, Description, Quality, Referent};
 use std::alloc::{AllocError, Global};
 use world_meaning::{Rel, TextBytes};
@@ -70,7 +69,7 @@ fn held_by(
         Found::Read(holder) => Ok(Found::Read(Predicate::Held(relation, holder))),
         Found::TooMany => Ok(Found::TooMany),
         Found::Unread => {
-            let those = description_said(alloc, scope, without_article(holder))?;
+            let those = description_said(alloc, scope, holder)?;
             Ok(by_one(relation, those))
         }
     }
@@ -107,7 +106,7 @@ fn from_same(
     }
 }
 
-/// A description, one article in front being free, or else an object or what holds it.
+/// A description, or else an object or what holds it.
 fn from_one(
     alloc: Global,
     scope: &Scope<'_>,
@@ -116,7 +115,7 @@ fn from_one(
     requires few { length (scope_of scope.now).repeats ≤ 255 }
     ensures { IfOk result (λ found. found_predicate found ≡ from_one (scope_of scope.now) words.now) }
 {
-    match description_said(alloc, scope, without_article(words))? {
+    match description_said(alloc, scope, words)? {
         Found::Read(description) => Ok(Found::Read(Predicate::One(description))),
         Found::TooMany => Ok(Found::TooMany),
         Found::Unread => from_same(alloc, scope, words),
@@ -149,16 +148,16 @@ pub fn predicate_said(
     }
 }
 
-/// What words say of an object that are an adjective, perhaps behind a `not` of its own.
-pub fn adjective_said(
+/// What words say of an object that are an adjective without a `not`.
+pub fn so_said(
     alloc: Global,
     scope: &Scope<'_>,
     words: &[TextBytes],
 ) -> Result<Found<Predicate>, AllocError>
-    ensures { IfOk result (λ found. found_predicate found ≡ adjective_by (adjective_named (scope_of scope.now) words.now)) }
+    ensures { IfOk result (λ found. found_predicate found ≡ so_by (quality_named (scope_of scope.now) words.now)) }
 {
-    match adjective_named(alloc, scope, words)? {
-        Some(adjective) => Ok(Found::Read(Predicate::So(adjective))),
+    match quality_named(alloc, scope, words)? {
+        Some(quality) => Ok(Found::Read(Predicate::So(plainly(quality)))),
         None => Ok(Found::Unread),
     }
 }

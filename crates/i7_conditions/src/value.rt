@@ -10,6 +10,7 @@ use crate::found::Found;
 use crate::key::{split_of, value_kind_named};
 use crate::object::object_said;
 use crate::scope::Scope;
+use crate::word::without_article;
 use play_meaning::tree::{Quality, Referent};
 use std::alloc::{AllocError, Global};
 use world_meaning::TextBytes;
@@ -35,7 +36,7 @@ fn value_in(kind: u8, quality: Option<Quality>) -> Option<u8>
     }
 }
 
-/// The value of this kind of value that words name, without an article.
+/// The value of this kind of value that words name, one article in front being free.
 fn value_named(
     alloc: Global,
     scope: &Scope<'_>,
@@ -44,7 +45,7 @@ fn value_named(
 ) -> Result<Option<u8>, AllocError>
     ensures { IfOk result (λ value. value ≡ value_named (scope_of scope.now) kind words.now) }
 {
-    let quality = quality_named(alloc, scope, words)?;
+    let quality = quality_named(alloc, scope, without_article(words))?;
     Ok(value_in(kind, quality))
 }
 

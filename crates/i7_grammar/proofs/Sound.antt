@@ -14,7 +14,7 @@ use Rattle.play_meaning.specs.Grammar.{Line, is_slot}
 use Rattle.i7_actions.specs.Parts.{is_name}
 use Rattle.i7_actions.specs.declared.action.Action.{Action}
 use Rattle.i7_actions.specs.declared.action.NounCount.{NounCount}
-use Rattle.i7_conditions.specs.Words.{Word, key_of}
+use Rattle.i7_conditions.specs.Words.{Word, key_of, without_article}
 use Rattle.i7_sentences.specs.Lowest.{lower_of, lowest}
 use Rattle.i7_sentences.specs.declared.sentence.Assertion.{Assertion}
 use Rattle.i7_sentences.specs.declared.sentence.Assertion.TheVariants as asserts
@@ -192,7 +192,7 @@ there_or k (Some (Names o)) object is there = absurd is
 
 there : (k : Known) (words : List Word) → IsThere k (target_of k words)
 unfolding target_of
-there k words = there_or k (action_from 0 k.actions words) (object_of (length k.objects) (object_by k.meanings (key_of words))) (numbered 0 k.actions words) (object_there k (object_by k.meanings (key_of words)))
+there k words = there_or k (action_from 0 k.actions words) (object_of (length k.objects) (object_by k.meanings (key_of (without_article words)))) (numbered 0 k.actions words) (object_there k (object_by k.meanings (key_of (without_article words))))
 
 -- ---- what one sentence tells
 

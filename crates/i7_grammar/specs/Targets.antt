@@ -6,7 +6,7 @@ use Rattle.world_meaning.specs.declared.tale.Object.{Object}
 use Rattle.i7_actions.specs.Parts.{is_name}
 use Rattle.i7_actions.specs.declared.action.Action.{Action}
 use Rattle.i7_conditions.specs.Meanings.{Meanings}
-use Rattle.i7_conditions.specs.Words.{Word, key_of}
+use Rattle.i7_conditions.specs.Words.{Word, key_of, without_article}
 use Rattle.i7_conditions.specs.declared.meaning.Meaning.{Meaning}
 use Rattle.i7_conditions.specs.declared.meaning.Meaning.TheVariants as meaning
 use Rattle.i7_grammar.specs.declared.target.Target.{Target}
@@ -31,7 +31,7 @@ object_meant _ = None
 abbrev pub player_by : List ℕ → Option ℕ
 player_by key = if is_spelled key (codes "player") then Some 0 else None
 
--- the object of this name; one free article was dropped where the sentence was read, and a second is none
+-- the object of this name
 abbrev pub object_by : Meanings → List ℕ → Option ℕ
 object_by meanings key = option_or (object_meant (meanings key)) (player_by key)
 
@@ -40,5 +40,6 @@ abbrev pub object_of : ℕ → Option ℕ → Option Target
 object_of count None = None
 object_of count (Some o) = if nat_lt o count then Some (target.Object o) else None
 
+-- an action's name has no article, and one in front of an object's is free
 unfoldable pub target_of : Known → List Word → Option Target
-target_of k words = option_or (action_from 0 k.actions words) (object_of (length k.objects) (object_by k.meanings (key_of words)))
+target_of k words = option_or (action_from 0 k.actions words) (object_of (length k.objects) (object_by k.meanings (key_of (without_article words))))

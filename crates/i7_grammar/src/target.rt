@@ -6,7 +6,7 @@ ghost use Rattle.i7_grammar.specs.Knowns.{known_of};
 
 use crate::known::Known;
 use i7_actions::{Action, NounCount, is_name};
-use i7_conditions::{Meaning, Names, key_of};
+use i7_conditions::{Meaning, Names, key_of, without_article};
 use std::alloc::{AllocError, Global};
 use world_meaning::{TextBytes, is_spelled};
 
@@ -83,7 +83,7 @@ fn object_there(count: usize, object: Option<u16>) -> Option<Target>
     }
 }
 
-/// What words mean, if they mean anything.
+/// What words mean, if they mean anything: an action without an article, or an object, in front of whose name one is free.
 #[tactic(auto, unfolding(crate::specs::Targets::target_of))]
 pub fn target_of(
     alloc: Global,
@@ -95,7 +95,7 @@ pub fn target_of(
     match action_named(known.actions, words) {
         Some(target) => Ok(Some(target)),
         None => {
-            let key = key_of(alloc, words)?;
+            let key = key_of(alloc, without_article(words))?;
             let object = object_by(known.names, key.as_slice());
             Ok(object_there(known.objects.len(), object))
         }

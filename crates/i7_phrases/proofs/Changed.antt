@@ -24,7 +24,7 @@ use Rattle.i7_conditions.specs.Scopes.{Scope}
 use Rattle.i7_conditions.specs.Terms.{is_over}
 use Rattle.i7_conditions.specs.Values as value
 use Rattle.i7_conditions.specs.Values.{SaysValue, value_said}
-use Rattle.i7_conditions.specs.Words.{Word}
+use Rattle.i7_conditions.specs.Words.{Word, without_article}
 use Rattle.i7_conditions.specs.declared.found.Found.{Found}
 use Rattle.i7_conditions.specs.declared.found.Found.TheVariants.{Read, TooMany, Unread}
 use Rattle.i7_conditions.proofs.Asked.{number_found, or_swapped}
@@ -117,17 +117,17 @@ given_found s subject behind = one_found given (SaysValue s subject behind) valu
 abbrev KindAnd : Type 0
 KindAnd = ℕ × ℕ
 
-valued_found : (s : Scope) (subject behind : List Word) (found : Option KindAnd) → value_of (quality_named s behind) ≡ found → IsFoundAs (MakesValued s subject behind) phrase_is_over (valued_said s subject found)
-valued_found s subject behind None e = none_found (value_of (quality_named s behind)) (λ (value : KindAnd). Made (made_valued value) (Means s subject)) phrase_is_over e
+valued_found : (s : Scope) (subject behind : List Word) (found : Option KindAnd) → value_of (quality_named s (without_article behind)) ≡ found → IsFoundAs (MakesValued s subject behind) phrase_is_over (valued_said s subject found)
+valued_found s subject behind None e = none_found (value_of (quality_named s (without_article behind))) (λ (value : KindAnd). Made (made_valued value) (Means s subject)) phrase_is_over e
 valued_found s subject behind (Some value) e =
-    some_found (value_of (quality_named s behind)) (λ (value : KindAnd). Made (made_valued value) (Means s subject)) phrase_is_over value e (valued_said s subject (Some value))
+    some_found (value_of (quality_named s (without_article behind))) (λ (value : KindAnd). Made (made_valued value) (Means s subject)) phrase_is_over value e (valued_said s subject (Some value))
     (one_found (made_valued value) (Means s subject) is_deep phrase_is_over (λ o. refl) (object_said s subject) (object_found s subject))
 
 values_found : (s : Scope) (subject behind : List Word) → IsFoundAs (SetsValue s subject behind) phrase_is_over (from_value s subject behind)
 unfolding from_value
 values_found s subject behind =
-    or_found (GivesValue s subject behind) (MakesValued s subject behind) phrase_is_over (value_given s subject behind) (valued_said s subject (value_of (quality_named s behind))) (given_found s subject behind)
-    (valued_found s subject behind (value_of (quality_named s behind)) refl)
+    or_found (GivesValue s subject behind) (MakesValued s subject behind) phrase_is_over (value_given s subject behind) (valued_said s subject (value_of (quality_named s (without_article behind)))) (given_found s subject behind)
+    (valued_found s subject behind (value_of (quality_named s (without_article behind))) refl)
 
 becomes_found : (s : Scope) (subject behind : List Word) → IsFoundAs (Becomes s subject behind) phrase_is_over (becomes_said s subject behind)
 unfolding becomes_said

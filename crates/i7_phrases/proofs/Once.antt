@@ -20,7 +20,7 @@ use Rattle.i7_conditions.specs.Readings.{FirstOf}
 use Rattle.i7_conditions.specs.Relations.{relation_at}
 use Rattle.i7_conditions.specs.Scopes.{Scope}
 use Rattle.i7_conditions.specs.Values.{SaysValue}
-use Rattle.i7_conditions.specs.Words.{Word}
+use Rattle.i7_conditions.specs.Words.{Word, without_article}
 use Rattle.i7_conditions.proofs.Counting.{counted_once}
 use Rattle.i7_conditions.proofs.Described.{described_once}
 use Rattle.i7_conditions.proofs.Listing.{IsOnce, Made, MadeAt, MadeOfTwo, at_once, first_once, made_once, two_once}
@@ -52,7 +52,7 @@ cell_once s words =
 values_once : (s : Scope) (subject behind : List Word) → IsOnce (SetsValue s subject behind)
 values_once s subject behind =
     first_once (GivesValue s subject behind) (MakesValued s subject behind) (made_once given (SaysValue s subject behind) (value_once s subject behind))
-    (at_once (value_of (quality_named s behind)) (λ (value : ℕ × ℕ). Made (made_valued value) (Means s subject)) (λ value. made_once (made_valued value) (Means s subject) (meant_once s subject)))
+    (at_once (value_of (quality_named s (without_article behind))) (λ (value : ℕ × ℕ). Made (made_valued value) (Means s subject)) (λ value. made_once (made_valued value) (Means s subject) (meant_once s subject)))
 
 becomes_once : (s : Scope) (subject behind : List Word) → IsOnce (Becomes s subject behind)
 becomes_once s subject behind =

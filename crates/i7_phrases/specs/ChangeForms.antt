@@ -15,7 +15,7 @@ use Rattle.i7_conditions.specs.Readings.{one, or_else, two}
 use Rattle.i7_conditions.specs.Relations.{relation_at}
 use Rattle.i7_conditions.specs.Scopes.{Scope}
 use Rattle.i7_conditions.specs.Values.{value_said}
-use Rattle.i7_conditions.specs.Words.{Word}
+use Rattle.i7_conditions.specs.Words.{Word, without_article}
 use Rattle.i7_conditions.specs.declared.found.Found.{Found}
 use Rattle.i7_conditions.specs.declared.found.Found.TheVariants.{Read, TooMany, Unread}
 use Rattle.i7_phrases.specs.CellForms.{cell_said}
@@ -66,7 +66,7 @@ valued_said s subject (Some value) = one (made_valued value) (object_said s subj
 
 -- the forms from one of the list on
 unfoldable pub from_value : Scope → List Word → List Word → Found tree.Phrase
-from_value s subject behind = or_else (value_given s subject behind) (valued_said s subject (value_of (quality_named s behind)))
+from_value s subject behind = or_else (value_given s subject behind) (valued_said s subject (value_of (quality_named s (without_article behind))))
 
 abbrev pub from_set : Scope → List Word → List Word → Found tree.Phrase
 from_set s subject behind = or_else (set_said s subject behind) (from_value s subject behind)

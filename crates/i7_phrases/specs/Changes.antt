@@ -20,7 +20,7 @@ use Rattle.i7_conditions.specs.Readings.{FirstOf}
 use Rattle.i7_conditions.specs.Relations.{relation_at}
 use Rattle.i7_conditions.specs.Scopes.{Scope}
 use Rattle.i7_conditions.specs.Values.{SaysValue, Valuing}
-use Rattle.i7_conditions.specs.Words.{Word}
+use Rattle.i7_conditions.specs.Words.{Word, without_article}
 use Rattle.i7_phrases.specs.Cells.{IsCell, read, set}
 
 -- ---- `now OBJECT is ..`
@@ -73,10 +73,10 @@ value_of None = None
 value_of (Some (Valued q value)) = Some (q, value)
 value_of (Some _) = None
 
--- a value's name, without an article and without a `not`
+-- a value's name, one article in front being free, without a `not`
 abbrev pub MakesValued : Scope → List Word → List Word → tree.Phrase → Type 0
 MakesValued s subject behind p =
-    (value : ℕ × ℕ) × (value_of (quality_named s behind) ≡ Some value) × ((o : tree.Object) × Means s subject o × (p ≡ tree.NowValued o value.0 value.1))
+    (value : ℕ × ℕ) × (value_of (quality_named s (without_article behind)) ≡ Some value) × ((o : tree.Object) × Means s subject o × (p ≡ tree.NowValued o value.0 value.1))
 
 abbrev pub SetsValue : Scope → List Word → List Word → tree.Phrase → Type 0
 SetsValue s subject behind = FirstOf (GivesValue s subject behind) (MakesValued s subject behind)

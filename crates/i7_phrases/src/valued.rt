@@ -6,10 +6,13 @@ ghost use Rattle.i7_conditions.specs.Objects.{found_meant};
 ghost use Rattle.i7_conditions.specs.Readings.{one};
 ghost use Rattle.i7_conditions.specs.Scopes.{scope_of};
 ghost use Rattle.i7_conditions.specs.Values.{found_valuing};
+ghost use Rattle.i7_conditions.specs.Words.{without_article};
 ghost use Rattle.i7_phrases.specs.ChangeForms.{found_simple, from_value, made_valued, valued_said};
 ghost use Rattle.i7_phrases.specs.Changes.{given, value_of};
 
-use i7_conditions::{Found, Scope, Valuing, object_said, quality_named, value_said};
+use i7_conditions::{
+    Found, Scope, Valuing, object_said, quality_named, value_said, without_article,
+};
 use play_meaning::tree::{Quality, Referent, Simple};
 use std::alloc::{AllocError, Global};
 use world_meaning::TextBytes;
@@ -57,9 +60,9 @@ fn valued_said(
     behind: &[TextBytes],
 ) -> Result<Found<Simple>, AllocError>
     requires few { length (scope_of scope.now).repeats ≤ 255 }
-    ensures { IfOk result (λ found. found_simple found ≡ valued_said (scope_of scope.now) subject.now (value_of (quality_named (scope_of scope.now) behind.now))) }
+    ensures { IfOk result (λ found. found_simple found ≡ valued_said (scope_of scope.now) subject.now (value_of (quality_named (scope_of scope.now) (without_article behind.now)))) }
 {
-    match value_of(quality_named(alloc, scope, behind)?) {
+    match value_of(quality_named(alloc, scope, without_article(behind))?) {
         None => Ok(Found::Unread),
         Some((kind, value)) => {
             let object = object_said(alloc, scope, subject)?;

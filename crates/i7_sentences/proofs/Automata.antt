@@ -9,8 +9,8 @@ use Rattle.i7_lexer.specs.declared.token.Token.{Token}
 use Rattle.i7_sentences.specs.contracts.keyword.Keyword.{the_type}
 use Rattle.i7_sentences.specs.Words.{is_word, is_text}
 use Rattle.i7_sentences.specs.Keywords.{is_article, is_same, is_sign, keyword_of}
-use Rattle.i7_sentences.specs.Classes.{is_asked, is_degree, IsRun, IsAlone, IsListed, IsNames, IsOf, is_joint, is_name_word, is_vertical, is_direction, is_inner, is_behind, is_side, is_number, is_choice, is_head_token, is_body, is_body_mark}
-use Rattle.i7_sentences.specs.Classes.IsNames.{one_name, more_names}
+use Rattle.i7_sentences.specs.Classes.{is_asked, is_degree, IsRun, IsAlone, IsListed, IsNames, IsOf, is_comma, is_listed_word, is_vertical, is_direction, is_inner, is_behind, is_side, is_number, is_choice, is_head_token, is_body, is_body_mark}
+use Rattle.i7_sentences.specs.Classes.IsNames.{one_item, more_items}
 use Rattle.i7_sentences.specs.Automata.{accepts, alone_step, asked_step, body_step, is_of, names_step, run_step, runs, side_start, side_step, step, then_runs}
 use Rattle.i7_sentences.specs.declared.keyword.Keyword.{Keyword}
 use Rattle.i7_sentences.specs.declared.keyword.Keyword.TheVariants as keyword
@@ -67,11 +67,11 @@ of_alone class test is tokens alone =
     ∙ ap (λ here. then_runs (alone_step Start here) (λ after. runs class after [])) alone.passes
 
 -- names: how a list goes on behind a name that is read so far
-not_joint : (token : Token) → is_name_word token ≡ true → is_joint token ≡ false
-unfolding is_name_word
-not_joint token is =
+not_comma : (token : Token) → is_listed_word token ≡ true → is_comma token ≡ false
+unfolding is_listed_word
+not_comma token is =
     let Goal : Bool → Type 0 = λ joint. (is_word token && not joint) ≡ true → joint ≡ false
-    in (elim (is_joint token) as Goal [
+    in (elim (is_comma token) as Goal [
       | true ↦ λ none. absurd (false≢true (and_right (is_word token) false none))
       | false ↦ λ none. refl
     ]) is
@@ -90,48 +90,48 @@ names_between : (tokens : List Token) → runs class.Names Between tokens ≡ ru
 names_between [] = refl
 names_between (token ∷ tokens) = names_next token tokens
 
-names_joint : (token : Token) (tokens : List Token) → is_joint token ≡ true → runs class.Names Inside (token ∷ tokens) ≡ runs class.Names Start tokens
+names_comma : (token : Token) (tokens : List Token) → is_comma token ≡ true → runs class.Names Inside (token ∷ tokens) ≡ runs class.Names Start tokens
 unfolding names_step
-names_joint token tokens is = ap (λ joint. then_runs (if joint then Some Between else (if is_name_word token then Some Inside else None)) (λ after. runs class.Names after tokens)) is ∙ names_between tokens
+names_comma token tokens is = ap (λ joint. then_runs (if joint then Some Between else (if is_listed_word token then Some Inside else None)) (λ after. runs class.Names after tokens)) is ∙ names_between tokens
 
-names_word : (token : Token) (tokens : List Token) → is_joint token ≡ false → runs class.Names Inside (token ∷ tokens) ≡ (is_name_word token && runs class.Names Inside tokens)
+names_word : (token : Token) (tokens : List Token) → is_comma token ≡ false → runs class.Names Inside (token ∷ tokens) ≡ (is_listed_word token && runs class.Names Inside tokens)
 unfolding names_step
 names_word token tokens is =
     let Goal : Bool → Type 0 = λ here. then_runs (if here then Some Inside else None) (λ after. runs class.Names after tokens) ≡ (here && runs class.Names Inside tokens)
-    in ap (λ joint. then_runs (if joint then Some Between else (if is_name_word token then Some Inside else None)) (λ after. runs class.Names after tokens)) is
-    ∙ (elim (is_name_word token) as Goal [ true ↦ refl | false ↦ refl ])
+    in ap (λ joint. then_runs (if joint then Some Between else (if is_listed_word token then Some Inside else None)) (λ after. runs class.Names after tokens)) is
+    ∙ (elim (is_listed_word token) as Goal [ true ↦ refl | false ↦ refl ])
 
 all_more : (test : Token → Bool) (front : List Token) (token : Token) → list_all test front ≡ true → test token ≡ true → list_all test (front ++ token ∷ []) ≡ true
 all_more test [] token all is = and_from (test token) true is refl
 all_more test (first ∷ front) token all is = and_from (test first) (list_all test (front ++ token ∷ [])) (and_left (test first) (list_all test front) all) (all_more test front token (and_right (test first) (list_all test front) all) is)
 
-listed_more : (name : List Token) (token : Token) → IsListed name → is_name_word token ≡ true → IsListed (name ++ token ∷ [])
+listed_more : (name : List Token) (token : Token) → IsListed name → is_listed_word token ≡ true → IsListed (name ++ token ∷ [])
 listed_more [] token listed is = absurd listed
-listed_more (first ∷ more) token listed is = (listed.0, all_more is_name_word more token listed.1 is)
+listed_more (first ∷ more) token listed is = (listed.0, all_more is_listed_word more token listed.1 is)
 
 append_nil : (name : List Token) → name ≡ name ++ []
 append_nil [] = refl
 append_nil (first ∷ more) = ap (λ ts. first ∷ ts) (append_nil more)
 
 names_behind : (name tokens : List Token) → IsListed name → runs class.Names Inside tokens ≡ true → IsNames (name ++ tokens)
-names_behind name [] listed taken = subst IsNames (append_nil name) (one_name name listed)
+names_behind name [] listed taken = subst IsNames (append_nil name) (one_item name listed)
 names_behind name (token ∷ []) listed taken =
-    let Goal : Bool → Type 0 = λ joint. is_joint token ≡ joint → IsNames (name ++ token ∷ [])
-    in (elim (is_joint token) as Goal [
-      | true ↦ λ joint. absurd (false≢true (sym (names_joint token [] joint) ∙ taken))
+    let Goal : Bool → Type 0 = λ joint. is_comma token ≡ joint → IsNames (name ++ token ∷ [])
+    in (elim (is_comma token) as Goal [
+      | true ↦ λ joint. absurd (false≢true (sym (names_comma token [] joint) ∙ taken))
       | false ↦ λ joint.
-          let parts : (is_name_word token && true) ≡ true = sym (names_word token [] joint) ∙ taken in
-          one_name (name ++ token ∷ []) (listed_more name token listed (and_left (is_name_word token) true parts))
+          let parts : (is_listed_word token && true) ≡ true = sym (names_word token [] joint) ∙ taken in
+          one_item (name ++ token ∷ []) (listed_more name token listed (and_left (is_listed_word token) true parts))
     ]) refl
 names_behind name (token ∷ next ∷ tokens) listed taken =
-    let Goal : Bool → Type 0 = λ joint. is_joint token ≡ joint → IsNames (name ++ token ∷ next ∷ tokens)
-    in (elim (is_joint token) as Goal [
+    let Goal : Bool → Type 0 = λ joint. is_comma token ≡ joint → IsNames (name ++ token ∷ next ∷ tokens)
+    in (elim (is_comma token) as Goal [
       | true ↦ λ joint.
-          let first : (is_word next && runs class.Names Inside tokens) ≡ true = sym (names_first next tokens) ∙ sym (names_joint token (next ∷ tokens) joint) ∙ taken in
-          more_names name (next ∷ tokens) token listed joint (names_behind (next ∷ []) tokens (and_left (is_word next) (runs class.Names Inside tokens) first, refl) (and_right (is_word next) (runs class.Names Inside tokens) first))
+          let first : (is_word next && runs class.Names Inside tokens) ≡ true = sym (names_first next tokens) ∙ sym (names_comma token (next ∷ tokens) joint) ∙ taken in
+          more_items name (next ∷ tokens) token listed joint (names_behind (next ∷ []) tokens (and_left (is_word next) (runs class.Names Inside tokens) first, refl) (and_right (is_word next) (runs class.Names Inside tokens) first))
       | false ↦ λ joint.
-          let parts : (is_name_word token && runs class.Names Inside (next ∷ tokens)) ≡ true = sym (names_word token (next ∷ tokens) joint) ∙ taken in
-          subst IsNames (append_assoc name (token ∷ []) (next ∷ tokens)) (names_behind (name ++ token ∷ []) (next ∷ tokens) (listed_more name token listed (and_left (is_name_word token) (runs class.Names Inside (next ∷ tokens)) parts)) (and_right (is_name_word token) (runs class.Names Inside (next ∷ tokens)) parts))
+          let parts : (is_listed_word token && runs class.Names Inside (next ∷ tokens)) ≡ true = sym (names_word token (next ∷ tokens) joint) ∙ taken in
+          subst IsNames (append_assoc name (token ∷ []) (next ∷ tokens)) (names_behind (name ++ token ∷ []) (next ∷ tokens) (listed_more name token listed (and_left (is_listed_word token) (runs class.Names Inside (next ∷ tokens)) parts)) (and_right (is_listed_word token) (runs class.Names Inside (next ∷ tokens)) parts))
     ]) refl
 
 names_of : (tokens : List Token) → runs class.Names Start tokens ≡ true → IsNames tokens
@@ -140,21 +140,21 @@ names_of (token ∷ tokens) taken =
     let parts : (is_word token && runs class.Names Inside tokens) ≡ true = sym (names_first token tokens) ∙ taken in
     names_behind (token ∷ []) tokens (and_left (is_word token) (runs class.Names Inside tokens) parts, refl) (and_right (is_word token) (runs class.Names Inside tokens) parts)
 
-names_over : (front rest : List Token) → list_all is_name_word front ≡ true → runs class.Names Inside (front ++ rest) ≡ runs class.Names Inside rest
+names_over : (front rest : List Token) → list_all is_listed_word front ≡ true → runs class.Names Inside (front ++ rest) ≡ runs class.Names Inside rest
 names_over [] rest all = refl
 names_over (token ∷ front) rest all =
-    let here = and_left (is_name_word token) (list_all is_name_word front) all in
-    names_word token (front ++ rest) (not_joint token here)
+    let here = and_left (is_listed_word token) (list_all is_listed_word front) all in
+    names_word token (front ++ rest) (not_comma token here)
     ∙ ap (λ is. is && runs class.Names Inside (front ++ rest)) here
-    ∙ names_over front rest (and_right (is_name_word token) (list_all is_name_word front) all)
+    ∙ names_over front rest (and_right (is_listed_word token) (list_all is_listed_word front) all)
 
 listed_over : (name rest : List Token) → IsListed name → runs class.Names Start (name ++ rest) ≡ runs class.Names Inside rest
 listed_over [] rest listed = absurd listed
 listed_over (first ∷ more) rest listed = names_first first (more ++ rest) ∙ ap (λ is. is && runs class.Names Inside (more ++ rest)) listed.0 ∙ names_over more rest listed.1
 
 of_names : (tokens : List Token) → IsNames tokens → runs class.Names Start tokens ≡ true
-of_names tokens (one_name name listed) = ap (runs class.Names Start) (append_nil name) ∙ listed_over name [] listed
-of_names tokens (more_names name names joint listed is rest) = listed_over name (joint ∷ names) listed ∙ names_joint joint names is ∙ of_names names rest
+of_names tokens (one_item name listed) = ap (runs class.Names Start) (append_nil name) ∙ listed_over name [] listed
+of_names tokens (more_items name names joint listed is rest) = listed_over name (joint ∷ names) listed ∙ names_comma joint names is ∙ of_names names rest
 
 -- the first two words of a side, by what each of them is
 abbrev side_start_by : Bool → Bool → Bool → Option State

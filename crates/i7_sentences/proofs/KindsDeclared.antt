@@ -6,7 +6,7 @@ use Rattle.std.proofs.lemmas.List.Elements.{All-nil, All-cons}
 use Rattle.i7_lexer.specs.declared.token.Token.{Token}
 use Rattle.i7_sentences.specs.Cuts.{Piece}
 use Rattle.i7_sentences.specs.DeclaredKinds.{AreDeclared, AreKinds, DeclaresKind, DeclaresNone, IsSaidItself, SaysItself, SaysNot, nothing, one_more, no_more}
-use Rattle.i7_sentences.specs.Forms.{AreUnfit, Fits, IsUnfit, Variant, middle_forms}
+use Rattle.i7_sentences.specs.Forms.{AreUnfit, Fits, IsUnfit, IsUnread, Variant, lower_forms, middle_forms}
 use Rattle.i7_sentences.specs.KindsOfValue.{declared_by, declared_in, first_name, is_value_itself, kinds_of_value, speaks_of_value, value_itself}
 use Rattle.i7_sentences.specs.Matching.{Found, best_fit, first_fit, lowest_fit}
 use Rattle.i7_sentences.specs.Names.{Words}
@@ -83,26 +83,27 @@ one_letter tokens name more fits =
     let last = fits.behind.behind.behind.behind.behind.behind in
     same_tail name fits.words more fits.others fits.keeps ∙ last.1
 
-named_found : (tokens : List Token) (found : Option (List (List Token))) → lowest_fit middle_forms tokens ≡ None → Fitted KIND_OF_VALUE.now tokens found → Declared (record { kind = Sentence; tokens = tokens }) (first_name found)
+named_found : (tokens : List Token) (found : Option (List (List Token))) → IsUnread lower_forms tokens × IsUnread middle_forms tokens → Fitted KIND_OF_VALUE.now tokens found → Declared (record { kind = Sentence; tokens = tokens }) (first_name found)
 named_found tokens None unread unfit = λ kind declares. unfit (declares.name ∷ []) declares.fits
 named_found tokens (Some []) unread found = absurd (nil-cons (found.fits).words (found.fits).others (found.fits).keeps)
 named_found tokens (Some (name ∷ more)) unread found = record {
   is_sentence = refl;
-  unread = subst (ReadAs middle_forms tokens) unread (read_as middle_forms tokens);
+  unread = unread;
   name = name;
   fits = subst (λ (ls : List (List Token)). Fits KIND_OF_VALUE.now tokens (name ∷ ls)) (one_letter tokens name more found.fits) found.fits;
   kind_is = refl;
 }
 
-unless_read : (tokens : List Token) (lower : Option Found) → lowest_fit middle_forms tokens ≡ lower → ReadAs middle_forms tokens lower
-    → Declared (record { kind = Sentence; tokens = tokens }) (if is_some lower then None else first_name (first_fit KIND_OF_VALUE.now tokens))
-unless_read tokens (Some found) is reading = λ kind declares. never_both middle_forms tokens found.variant found.letters reading declares.unread
-unless_read tokens None is unread = named_found tokens (first_fit KIND_OF_VALUE.now tokens) is (fitted KIND_OF_VALUE.now tokens)
+unless_read : (tokens : List Token) (lower middle : Option Found) → ReadAs lower_forms tokens lower → ReadAs middle_forms tokens middle
+    → Declared (record { kind = Sentence; tokens = tokens }) (if is_some lower || is_some middle then None else first_name (first_fit KIND_OF_VALUE.now tokens))
+unless_read tokens (Some found) middle reading other = λ kind declares. never_both lower_forms tokens found.variant found.letters reading declares.unread.0
+unless_read tokens None (Some found) unread reading = λ kind declares. never_both middle_forms tokens found.variant found.letters reading declares.unread.1
+unless_read tokens None None lower middle = named_found tokens (first_fit KIND_OF_VALUE.now tokens) (lower, middle) (fitted KIND_OF_VALUE.now tokens)
 
 declared : (kind : PartKind) (tokens : List Token) → Declared (record { kind = kind; tokens = tokens }) (declared_by kind tokens)
 declared Title tokens = λ kind declares. no_title declares.is_sentence
 declared Heading tokens = λ kind declares. no_heading declares.is_sentence
-declared Sentence tokens = unless_read tokens (lowest_fit middle_forms tokens) refl (read_as middle_forms tokens)
+declared Sentence tokens = unless_read tokens (lowest_fit lower_forms tokens) (lowest_fit middle_forms tokens) (read_as lower_forms tokens) (read_as middle_forms tokens)
 
 with_declared : (part : Piece) (parts : List Piece) (kind : Option Words) (kinds : List Words) → Declared part kind → AreDeclared parts kinds → AreDeclared (part ∷ parts) (cons_option kind kinds)
 with_declared part parts None kinds none more = no_more part parts kinds none more

@@ -3,9 +3,8 @@ use Rattle.std.proofs.Common.{◌≡◌, ◌<◌, ◌≤◌, ◌+◌, Bool, true
 use Rattle.std.specs.Prelude.{if◌then◌else◌}
 use Rattle.std.proofs.lemmas.Grind.{common_steps}
 use Rattle.i7_lexer.specs.declared.token.Token.{Token}
-use Rattle.i7_sentences.specs.Classes.{is_joint}
 use Rattle.i7_sentences.specs.declared.name.Name.{Name}
-use Rattle.i7_sentences.specs.Names.{name_len, name_of, names_from, onto_name, rest_of, unjoined}
+use Rattle.i7_sentences.specs.Names.{name_len, name_of, names_from, onto_name, parts_names, rest_of, unjoined}
 
 names_within : (words : List Token) → names_from false words ≡ take (unjoined words) words ∷ names_from true (rest_of (drop (unjoined words) words))
 names_within [] = refl
@@ -13,7 +12,7 @@ names_within (word ∷ words) =
     let Goal : Bool → Type 0 = λ joint.
     (if joint then [] ∷ names_from true words else onto_name word (names_from false words))
     ≡ take (if joint then 0 else 1 + unjoined words) (word ∷ words) ∷ names_from true (rest_of (drop (if joint then 0 else 1 + unjoined words) (word ∷ words)))
-    in elim (is_joint word) as Goal [
+    in elim (parts_names word words) as Goal [
       | true ↦ refl
       | false ↦ ap (onto_name word) (names_within words) ∙ grind (arith, common_steps)
     ]

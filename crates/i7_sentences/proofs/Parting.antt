@@ -1,11 +1,20 @@
 -- Words parted at the first that is wanted.
-use Rattle.std.proofs.Common.{◌≡◌, ap, refl, ◌+◌, Bool, true, false, List, [], ◌∷◌, Option, Some, None, arith}
-use Rattle.std.specs.List.{position_or_len}
+use Rattle.std.proofs.Common.{◌≡◌, ap, refl, ◌∙◌, ℕ, ◌+◌, ◌-◌, Bool, true, false, List, [], ◌∷◌, length, take, drop, Option, Some, None, arith}
+use Rattle.std.specs.List.{after_first, position_or_len}
+use Rattle.std.proofs.lemmas.List.{drop-drop, length-drop, take_all}
 use Rattle.i7_lexer.specs.declared.token.Token.{Token}
 use Rattle.i7_sentences.specs.HeadWords.{IsParted, behind_first, in_front_of}
 use Rattle.i7_sentences.specs.Keywords.{is_sign}
 use Rattle.i7_sentences.specs.declared.keyword.Keyword.{Keyword}
 use Rattle.i7_sentences.proofs.Cutting.{one_dropped, one_taken}
+
+-- what stands behind the first of the tokens that passes, whose place is told by their words
+pub behind_first_mark : (passes : Token → Bool) (tokens words rest : List Token) (n : ℕ) → n ≡ position_or_len passes words → words ≡ tokens → rest ≡ drop n tokens → take (length rest - 1) (drop 1 rest) ≡ after_first passes tokens
+behind_first_mark passes tokens words rest n at same parts =
+    take_all (length rest - 1) (drop 1 rest) (omega (arith, length-drop 1 rest))
+    ∙ ap (drop 1) parts
+    ∙ drop-drop 1 n tokens
+    ∙ ap (λ (k : ℕ). drop (k + 1) tokens) (at ∙ ap (position_or_len passes) same)
 
 -- a word in front that isn't the one
 onto : (keyword : Keyword) (word : Token) (words front : List Token) (behind : Option (List Token))

@@ -16,12 +16,11 @@ use Rattle.i7_sentences.specs.Cuts.{Piece as Part, line_in}
 use Rattle.i7_sentences.specs.Forms.{Fits, IsReading, Variant, higher_forms, lower_forms, middle_forms}
 use Rattle.i7_sentences.specs.Keywords.{is_sign}
 use Rattle.i7_sentences.specs.Names.{Words}
-use Rattle.i7_sentences.specs.Read.{heard_by, named_heard, plain_heard}
+use Rattle.i7_sentences.specs.HeardForms.{heard_by, named_heard, plain_heard}
 use Rattle.i7_sentences.specs.Reserved.{has_reserved_among}
 use Rattle.i7_sentences.specs.RuleHeads.{is_rule_form}
 use Rattle.i7_sentences.specs.Sources.{IsSpeaking, Says, SaysInWords}
-use Rattle.i7_sentences.specs.Rules.{rule_heard}
-use Rattle.i7_sentences.specs.Understood.{IsUnderstoodBy, is_unread}
+use Rattle.i7_sentences.specs.Understood.{IsUnderstoodBy, is_shaped, is_unread}
 use Rattle.i7_sentences.specs.ValueForms.{IsReadLater, IsReadWith, IsValueReading, ValueForm, value_forms}
 use Rattle.i7_sentences.specs.Words.{direction_named, is_text_kind, word_of}
 use Rattle.i7_sentences.specs.declared.action_form.ActionSort.TheVariants as sort
@@ -213,11 +212,11 @@ actions_speak = (
 
 lower_speak : Each (Each Speaks) lower_forms
 unfolding lower_forms assertion_of
-lower_speak = ((one _ form.Description (λ a is plain kinds. described_said (describing_text a) (text_describes a is plain)), tt), ((λ letters are. never, tt), ((λ letters are. never, tt), ((λ letters are. never, tt), ((λ letters are. never, tt), ((λ letters are. never, tt), ((λ letters are. never, tt), ((λ letters are. never, tt), ((λ letters are. never, (λ letters are. never, tt)), ((λ letters are. never, (λ letters are. never, tt)), ((λ letters are. never, (λ letters are. never, tt)), ((λ letters are. never, (λ letters are. never, tt)), ((λ letters are. never, (λ letters are. never, tt)), tt)))))))))))))
+lower_speak = ((one _ form.Description (λ a is plain kinds. described_said (describing_text a) (text_describes a is plain)), tt), ((λ letters are. never, tt), ((λ letters are. never, tt), ((λ letters are. never, tt), ((λ letters are. never, tt), ((λ letters are. never, tt), ((λ letters are. never, tt), ((λ letters are. never, tt), ((λ letters are. never, (λ letters are. never, tt)), ((λ letters are. never, (λ letters are. never, tt)), ((λ letters are. never, (λ letters are. never, tt)), ((λ letters are. never, (λ letters are. never, tt)), ((λ letters are. never, (λ letters are. never, tt)), ((λ letters are. never, (λ letters are. never, tt)), tt))))))))))))))
 
 middle_speak : Each (Each Speaks) middle_forms
 unfolding middle_forms assertion_of
-middle_speak = ((λ letters are. never, (λ letters are. never, tt)), ((two _ _ form.ListedFirst (λ a b first second plain kinds. refl), (two _ _ form.ListedLast (λ a b first second plain kinds. refl), (one _ form.NotListed (λ a is plain kinds. refl), tt))), (actions_speak, ((one _ form.Rulebook (λ a is plain kinds. refl), tt), ((one _ form.Scene (λ a is plain kinds. refl), (one _ form.RecurringScene (λ a is plain kinds. refl), tt)), tt)))))
+middle_speak = ((two _ _ form.ListedFirst (λ a b first second plain kinds. refl), (two _ _ form.ListedLast (λ a b first second plain kinds. refl), (one _ form.NotListed (λ a is plain kinds. refl), tt))), (actions_speak, ((one _ form.Rulebook (λ a is plain kinds. refl), tt), ((one _ form.Scene (λ a is plain kinds. refl), (one _ form.RecurringScene (λ a is plain kinds. refl), tt)), tt))))
 
 higher_speak : Each (Each Speaks) higher_forms
 unfolding higher_forms assertion_of
@@ -266,11 +265,17 @@ no_rule form.SceneEndsRule asserts = absurd (false≢true asserts)
 no_rule form.OwnRule asserts = absurd (false≢true asserts)
 no_rule _ asserts = refl
 
+-- nor one whose letters have a shape
+no_shape : (form : Form) → is_asserting form ≡ true → is_shaped form ≡ false
+no_shape form.SceneBegins asserts = absurd (false≢true asserts)
+no_shape form.SceneEnds asserts = absurd (false≢true asserts)
+no_shape other asserts = no_rule other asserts
+
 speaks_so : (kinds : List Words) (tokens : List Token) (variant : Variant) (letters : List (List Token)) → IsUnderstoodBy kinds tokens variant letters → is_asserting variant.form ≡ true → AreDescribing tokens → IsSaid variant.form letters
 speaks_so kinds tokens variant letters (inl kept) asserts plain = speaks_with kinds tokens variant letters kept.0 asserts plain
 speaks_so kinds tokens variant letters (inr (inl taken)) asserts plain = speaks_later kinds tokens variant letters taken.1 asserts plain
 speaks_so kinds tokens variant letters (inr (inr left)) asserts plain =
-    absurd (false≢true (sym (no_rule variant.form asserts) ∙ and_left (is_rule_form variant.form) (is_unread (rule_heard tokens)) left.0.1))
+    absurd (false≢true (sym (no_shape variant.form asserts) ∙ and_left (is_shaped variant.form) (is_unread (heard_by kinds tokens variant letters)) left.0.1))
 
 named_read : (line at : ℕ) (is_reserved : Bool) (said : Assertion) → named_heard line is_reserved said ≡ heard.Unread at → ⊥
 named_read line at true said is = cc

@@ -6,11 +6,9 @@ use Rattle.i7_sentences.specs.Cuts.{line_in}
 use Rattle.i7_sentences.specs.Forms.{Variant}
 use Rattle.i7_sentences.specs.Matching.{Found, or_later}
 use Rattle.i7_sentences.specs.Names.{Words}
-use Rattle.i7_sentences.specs.Read.{IsHeardAs, IsHeardOr, plain_found}
-use Rattle.i7_sentences.specs.RuleHeads.{is_rule_form}
-use Rattle.i7_sentences.specs.Rules.{rule_heard}
+use Rattle.i7_sentences.specs.Read.{IsHeardAs, IsHeardOr}
 use Rattle.i7_sentences.specs.Stretches.{bad_literal_in, whole}
-use Rattle.i7_sentences.specs.Understood.{IsUnderstoodBy, is_passed_on, is_unread, passed_on, understood_by, understood_from}
+use Rattle.i7_sentences.specs.Understood.{IsUnderstoodBy, is_passed_on, is_shaped, is_unread, passed_on, understood_by, understood_from}
 use Rattle.i7_sentences.specs.ValueFits.{read_later, read_with}
 use Rattle.i7_sentences.specs.ValueForms.{IsReadWith, IsUnreadWith}
 use Rattle.i7_sentences.specs.declared.heard.Heard.{Heard}
@@ -50,7 +48,7 @@ abbrev pub Understood : List Words → List Token → Option Found → Type 0
 Understood kinds tokens None = IsUnreadWith kinds tokens
 Understood kinds tokens (Some found) = IsUnderstoodBy kinds tokens found.variant found.letters
 
-taken_or_left : (kinds : List Words) (tokens : List Token) (rule : Found) (later : Option Found) → IsReadWith kinds tokens rule.variant rule.letters → is_passed_on tokens rule.variant ≡ true → ReadLater kinds tokens later
+taken_or_left : (kinds : List Words) (tokens : List Token) (rule : Found) (later : Option Found) → IsReadWith kinds tokens rule.variant rule.letters → is_passed_on kinds tokens rule.variant rule.letters ≡ true → ReadLater kinds tokens later
     → Understood kinds tokens (or_later later (Some rule))
 taken_or_left kinds tokens rule (Some found) read passed later = inr (inl ((rule.variant, rule.letters, (read, passed)), later))
 taken_or_left kinds tokens rule None read passed later = inr (inr ((read, passed), later))
@@ -58,8 +56,8 @@ taken_or_left kinds tokens rule None read passed later = inr (inr ((read, passed
 kept_or_passed : (kinds : List Words) (tokens : List Token) (found : Found) → IsReadWith kinds tokens found.variant found.letters → Understood kinds tokens (passed_on kinds tokens found)
 unfolding passed_on
 kept_or_passed kinds tokens found read =
-    let Goal : Bool → Type 0 = λ passed. is_passed_on tokens found.variant ≡ passed → Understood kinds tokens (if passed then or_later (read_later kinds tokens) (Some found) else Some found)
-    in elim (is_passed_on tokens found.variant) as Goal [
+    let Goal : Bool → Type 0 = λ passed. is_passed_on kinds tokens found.variant found.letters ≡ passed → Understood kinds tokens (if passed then or_later (read_later kinds tokens) (Some found) else Some found)
+    in elim (is_passed_on kinds tokens found.variant found.letters) as Goal [
       | true ↦ λ passed. taken_or_left kinds tokens found (read_later kinds tokens) read passed (found_later kinds tokens)
       | false ↦ λ kept. inl (read, kept)
     ] refl
@@ -99,29 +97,23 @@ understood_or_not kinds tokens v letters one unread = let both : Some (as_found 
 
 -- ---- what is passed on, told by what is heard of it
 
-unread_by : (kinds : List Words) (tokens : List Token) (found : Found) (is_rule : Bool) → is_rule_form found.variant.form ≡ is_rule
-    → (is_rule && is_unread (if is_rule then rule_heard tokens else plain_found (line_in tokens) kinds found.variant found.letters)) ≡ (is_rule && is_unread (rule_heard tokens))
-unread_by kinds tokens found true is = refl
-unread_by kinds tokens found false is = refl
-
-passed_so : (kinds : List Words) (tokens : List Token) (found : Found) (part : HeardPart) → IsHeardAs kinds tokens (Some found) part → is_passed_on tokens found.variant ≡ (is_rule_form found.variant.form && is_unread part.heard)
+passed_so : (kinds : List Words) (tokens : List Token) (found : Found) (part : HeardPart) → IsHeardAs kinds tokens (Some found) part → is_passed_on kinds tokens found.variant found.letters ≡ (is_shaped found.variant.form && is_unread part.heard)
 unfolding IsHeardAs
-passed_so kinds tokens found part told =
-    sym (unread_by kinds tokens found (is_rule_form found.variant.form) refl) ∙ ap (λ (h : Heard). is_rule_form found.variant.form && is_unread h) (sym told.0)
+passed_so kinds tokens found part told = ap (λ (h : Heard). is_shaped found.variant.form && is_unread h) (sym told.0)
 
-stays : (kinds : List Words) (tokens : List Token) (found : Found) (part : HeardPart) → IsHeardAs kinds tokens (Some found) part → (is_rule_form found.variant.form && is_unread part.heard) ≡ false → IsHeardAs kinds tokens (passed_on kinds tokens found) part
+stays : (kinds : List Words) (tokens : List Token) (found : Found) (part : HeardPart) → IsHeardAs kinds tokens (Some found) part → (is_shaped found.variant.form && is_unread part.heard) ≡ false → IsHeardAs kinds tokens (passed_on kinds tokens found) part
 unfolding passed_on
 stays kinds tokens found part told is = rw (passed_so kinds tokens found part told ∙ is) told
 
 pub said_stays : (kinds : List Words) (tokens : List Token) (found : Found) (said : Assertion) (literal : Option ℕ) → IsHeardAs kinds tokens (Some found) (record { heard = heard.Says said; bad_literal = literal })
     → IsHeardAs kinds tokens (passed_on kinds tokens found) (record { heard = heard.Says said; bad_literal = literal })
-said_stays kinds tokens found said literal told = stays kinds tokens found (record { heard = heard.Says said; bad_literal = literal }) told (and_false (is_rule_form found.variant.form))
+said_stays kinds tokens found said literal told = stays kinds tokens found (record { heard = heard.Says said; bad_literal = literal }) told (and_false (is_shaped found.variant.form))
 
 pub reserved_stays : (kinds : List Words) (tokens : List Token) (found : Found) (line : ℕ) (literal : Option ℕ) → IsHeardAs kinds tokens (Some found) (record { heard = heard.Reserved line; bad_literal = literal })
     → IsHeardAs kinds tokens (passed_on kinds tokens found) (record { heard = heard.Reserved line; bad_literal = literal })
-reserved_stays kinds tokens found line literal told = stays kinds tokens found (record { heard = heard.Reserved line; bad_literal = literal }) told (and_false (is_rule_form found.variant.form))
+reserved_stays kinds tokens found line literal told = stays kinds tokens found (record { heard = heard.Reserved line; bad_literal = literal }) told (and_false (is_shaped found.variant.form))
 
-pub other_stays : (kinds : List Words) (tokens : List Token) (found : Found) (part : HeardPart) → IsHeardAs kinds tokens (Some found) part → is_rule_form found.variant.form ≡ false → IsHeardAs kinds tokens (passed_on kinds tokens found) part
+pub other_stays : (kinds : List Words) (tokens : List Token) (found : Found) (part : HeardPart) → IsHeardAs kinds tokens (Some found) part → is_shaped found.variant.form ≡ false → IsHeardAs kinds tokens (passed_on kinds tokens found) part
 other_stays kinds tokens found part told is = stays kinds tokens found part told (rw is refl)
 
 or_else : (kinds : List Words) (tokens : List Token) (found : Found) (later : Option Found) (first part : HeardPart) → IsHeardAs kinds tokens (Some found) first → IsHeardOr kinds tokens later first part → IsHeardAs kinds tokens (or_later later (Some found)) part
@@ -129,12 +121,12 @@ unfolding IsHeardOr
 or_else kinds tokens found None first part told same = subst (IsHeardAs kinds tokens (Some found)) (sym same) told
 or_else kinds tokens found (Some later) first part told read = read
 
-pub lost_goes_on : (kinds : List Words) (tokens : List Token) (found : Found) (line : ℕ) (literal : Option ℕ) (part : HeardPart) → IsHeardAs kinds tokens (Some found) (record { heard = heard.Unread line; bad_literal = literal }) → is_rule_form found.variant.form ≡ true
+pub lost_goes_on : (kinds : List Words) (tokens : List Token) (found : Found) (line : ℕ) (literal : Option ℕ) (part : HeardPart) → IsHeardAs kinds tokens (Some found) (record { heard = heard.Unread line; bad_literal = literal }) → is_shaped found.variant.form ≡ true
     → IsHeardOr kinds tokens (read_later kinds tokens) (record { heard = heard.Unread line; bad_literal = literal }) part → IsHeardAs kinds tokens (passed_on kinds tokens found) part
 unfolding passed_on
 lost_goes_on kinds tokens found line literal part told is later =
     let unread : HeardPart = record { heard = heard.Unread line; bad_literal = literal } in
-    let passed : is_passed_on tokens found.variant ≡ true = passed_so kinds tokens found unread told ∙ rw is refl in
+    let passed : is_passed_on kinds tokens found.variant found.letters ≡ true = passed_so kinds tokens found unread told ∙ rw is refl in
     rw passed (or_else kinds tokens found (read_later kinds tokens) unread part told later)
 
 pub ruleset passing = (said_stays, reserved_stays, other_stays, lost_goes_on)

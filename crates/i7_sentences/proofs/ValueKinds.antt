@@ -1,13 +1,13 @@
 -- A sentence of which the word `value` isn't the last, the first or the second tells nothing of kinds of value.
 use Rattle.std.proofs.Common.{◌≡◌, Bool, true, false, List, [], ◌∷◌, ◌++◌, refl, ap, sym, ◌∙◌, append_assoc}
-use Rattle.std.specs.Prelude.{◌||◌, Option, Some, None, is_some, if◌then◌else◌}
+use Rattle.std.specs.Prelude.{◌||◌, Option, Some, None, if◌then◌else◌}
 use Rattle.std.specs.List.{list_any}
 use Rattle.std.proofs.lemmas.Bool.{false≢true}
 use Rattle.i7_lexer.specs.declared.token.Token.{Token}
-use Rattle.i7_sentences.specs.Forms.{Fits, middle_forms}
+use Rattle.i7_sentences.specs.Forms.{Fits}
 use Rattle.i7_sentences.specs.Keywords.{is_sign}
-use Rattle.i7_sentences.specs.KindsOfValue.{declared_by, ends_in_value, first_name, opens_with_value, speaks_of_value, value_itself}
-use Rattle.i7_sentences.specs.Matching.{first_fit, lowest_fit}
+use Rattle.i7_sentences.specs.KindsOfValue.{declared_by, ends_in_value, first_name, is_read_before, opens_with_value, speaks_of_value, value_itself}
+use Rattle.i7_sentences.specs.Matching.{first_fit}
 use Rattle.i7_sentences.specs.declared.class.Class.TheVariants as class
 use Rattle.i7_sentences.specs.declared.form.Piece.{Piece}
 use Rattle.i7_sentences.specs.declared.form.Piece.TheVariants.{Word, Letter}
@@ -53,9 +53,9 @@ no_name false = refl
 
 pub undeclared : (tokens : List Token) → ends_in_value tokens ≡ false → declared_by Sentence tokens ≡ None
 undeclared tokens isnt =
-    ap (λ (found : Option (List (List Token))). if is_some (lowest_fit middle_forms tokens) then None else first_name found)
+    ap (λ (found : Option (List (List Token))). if is_read_before tokens then None else first_name found)
     (never_fits KIND_OF_VALUE.now tokens (λ letters fits. false≢true (sym isnt ∙ kind_ends tokens letters fits)))
-    ∙ no_name (is_some (lowest_fit middle_forms tokens))
+    ∙ no_name (is_read_before tokens)
 
 first_opens : (first : Token) (rest : List Token) → is_sign Value first ≡ true → opens_with_value (first ∷ rest) ≡ true
 first_opens first [] is = is

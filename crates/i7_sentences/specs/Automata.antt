@@ -3,7 +3,7 @@ use Rattle.std.specs.Prelude.{Bool, true, false, List, [], ◌∷◌, Option, So
 use Rattle.i7_lexer.specs.declared.token.Token.{Token}
 use Rattle.i7_sentences.specs.Words.{is_word, is_text}
 use Rattle.i7_sentences.specs.Keywords.{is_article, is_sign}
-use Rattle.i7_sentences.specs.Classes.{is_degree, is_joint, is_name_word, is_vertical, is_direction, is_inner, is_number, is_body_mark, is_choice, is_head_token}
+use Rattle.i7_sentences.specs.Classes.{is_comma, is_degree, is_listed_word, is_vertical, is_direction, is_inner, is_number, is_body_mark, is_choice, is_head_token}
 use Rattle.i7_sentences.specs.declared.keyword.Keyword.TheVariants as keyword
 use Rattle.i7_sentences.specs.declared.class.Class.{Class}
 use Rattle.i7_sentences.specs.declared.class.Class.TheVariants as class
@@ -24,7 +24,7 @@ alone_step Beside passes = None
 -- names and what parts them
 unfoldable pub names_step : State → Token → Option State
 names_step Start token = if is_word token then Some Inside else None
-names_step Inside token = if is_joint token then Some Between else (if is_name_word token then Some Inside else None)
+names_step Inside token = if is_comma token then Some Between else (if is_listed_word token then Some Inside else None)
 names_step Between token = if is_word token then Some Inside else None
 names_step Beside token = None
 

@@ -19,22 +19,21 @@ pub record IsAlone (test : Token → Bool) (tokens : List Token) : Type 0 where
   pub alone : tokens ≡ token ∷ []
   pub passes : test token ≡ true
 
--- what parts the names of a list: `,` or `and`
-unfoldable pub is_joint : Token → Bool
-is_joint token = is_sign keyword.Comma token || is_sign keyword.And token
+unfoldable pub is_comma : Token → Bool
+is_comma token = is_sign keyword.Comma token
 
-unfoldable pub is_name_word : Token → Bool
-is_name_word token = is_word token && not (is_joint token)
+unfoldable pub is_listed_word : Token → Bool
+is_listed_word token = is_word token && not (is_comma token)
 
--- a name in a list: words, of which none behind the first is `and`
+-- an item of a list: words, among which an `and` may part two names
 abbrev pub IsListed : List Token → Type 0
 IsListed [] = ⊥
-IsListed (first ∷ more) = (is_word first ≡ true) × (list_all is_name_word more ≡ true)
+IsListed (first ∷ more) = (is_word first ≡ true) × (list_all is_listed_word more ≡ true)
 
--- names parted by `,` or `and`
+-- names: items parted by `,`
 pub data IsNames : List Token → Type 0 where
-  one_name : (name : List Token) → IsListed name → IsNames name
-  more_names : (name names : List Token) (joint : Token) → IsListed name → is_joint joint ≡ true → IsNames names → IsNames (name ++ joint ∷ names)
+  one_item : (item : List Token) → IsListed item → IsNames item
+  more_items : (item items : List Token) (comma : Token) → IsListed item → is_comma comma ≡ true → IsNames items → IsNames (item ++ comma ∷ items)
 
 -- `above` or `below`
 unfoldable pub is_vertical : Token → Bool

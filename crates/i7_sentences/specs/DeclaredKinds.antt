@@ -3,7 +3,7 @@ use Rattle.std.specs.Prelude.{◌≡◌, ◌⊎◌, List, [], ◌∷◌, ◌++�
 use Rattle.std.specs.List.{All}
 use Rattle.i7_lexer.specs.declared.token.Token.{Token}
 use Rattle.i7_sentences.specs.Cuts.{Piece}
-use Rattle.i7_sentences.specs.Forms.{Fits, IsUnread, Variant, middle_forms}
+use Rattle.i7_sentences.specs.Forms.{Fits, IsUnread, Variant, lower_forms, middle_forms}
 use Rattle.i7_sentences.specs.KindsOfValue.{value_itself}
 use Rattle.i7_sentences.specs.Names.{named_in, Words}
 use Rattle.i7_sentences.specs.declared.part.PartKind.TheVariants.{Sentence}
@@ -19,10 +19,10 @@ pub record SaysItself (part : Piece) : Type 0 where
   pub letters : List (List Token)
   pub fits : Fits variant.pieces part.tokens letters
 
--- a sentence declares a kind of value: no middle form fits it, and it is the kind's name and `is a kind of value`
+-- a sentence declares a kind of value: no form fits it that is tried before, and it is the kind's name and `is a kind of value`
 pub record DeclaresKind (part : Piece) (kind : Words) : Type 0 where
   pub is_sentence : part.kind ≡ Sentence
-  pub unread : IsUnread middle_forms part.tokens
+  pub unread : IsUnread lower_forms part.tokens × IsUnread middle_forms part.tokens
   pub name : List Token
   pub fits : Fits KIND_OF_VALUE.now part.tokens (name ∷ [])
   pub kind_is : kind ≡ named_in name

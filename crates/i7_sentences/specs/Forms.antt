@@ -91,11 +91,11 @@ pub record IsReading (forms : List (List Variant)) (tokens : List Token) (varian
 abbrev pub IsUnread : List (List Variant) → List Token → Type 0
 IsUnread forms tokens = All (AreUnfit tokens) forms
 
--- the forms up to those of rules, lowest first
+-- the forms up to that of what a scene begins or ends on, lowest first
 unfoldable pub lower_forms : List (List Variant)
 lower_forms = map (λ form. map (λ variant. record { form = variant.0; pieces = variant.1.now }) form.1.now) LOWER_FORMS
 
--- the forms behind those of rules that are tried before those that speak of kinds of value
+-- the forms behind these that are tried before those that speak of kinds of value
 unfoldable pub middle_forms : List (List Variant)
 middle_forms = map (λ form. map (λ variant. record { form = variant.0; pieces = variant.1.now }) form.1.now) MIDDLE_FORMS
 

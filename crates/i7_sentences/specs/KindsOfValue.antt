@@ -3,7 +3,7 @@ use Rattle.std.specs.Prelude.{◌-◌, Bool, false, ◌||◌, List, [], ◌∷�
 use Rattle.std.specs.List.{filter_map, list_any}
 use Rattle.i7_lexer.specs.declared.token.Token.{Token}
 use Rattle.i7_sentences.specs.Cuts.{Piece}
-use Rattle.i7_sentences.specs.Forms.{Variant, middle_forms}
+use Rattle.i7_sentences.specs.Forms.{Variant, lower_forms, middle_forms}
 use Rattle.i7_sentences.specs.Keywords.{is_sign}
 use Rattle.i7_sentences.specs.Matching.{best_fit, first_fit, lowest_fit}
 use Rattle.i7_sentences.specs.Names.{named_in, Words}
@@ -29,12 +29,16 @@ first_name None = None
 first_name (Some []) = None
 first_name (Some (name ∷ letters)) = Some (named_in name)
 
+-- a form reads the words that is tried before those that speak of kinds of value
+abbrev pub is_read_before : List Token → Bool
+is_read_before tokens = is_some (lowest_fit lower_forms tokens) || is_some (lowest_fit middle_forms tokens)
+
 abbrev pub declared_by : PartKind → List Token → Option Words
 declared_by Title tokens = None
 declared_by Heading tokens = None
-declared_by Sentence tokens = if is_some (lowest_fit middle_forms tokens) then None else first_name (first_fit KIND_OF_VALUE.now tokens)
+declared_by Sentence tokens = if is_read_before tokens then None else first_name (first_fit KIND_OF_VALUE.now tokens)
 
--- the kind of value that a sentence declares which no middle form reads; no lower form reads such words
+-- the kind of value that a sentence declares which no form reads that is tried before
 abbrev pub declared_in : Piece → Option Words
 declared_in part = declared_by part.kind part.tokens
 

@@ -12,6 +12,7 @@ pub mod Dues
 pub mod Forms
 pub mod Found
 pub mod HeadWords
+pub mod HeardForms
 pub mod Keywords
 pub mod KindsOfValue
 pub mod Lowest

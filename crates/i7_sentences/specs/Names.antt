@@ -1,9 +1,9 @@
 -- Names as sentences mention them.
-use Rattle.std.specs.Prelude.{ℕ, ◌+◌, true, fold, map, Bool, false, List, [], ◌∷◌, ◌++◌, if◌then◌else◌}
+use Rattle.std.specs.Prelude.{ℕ, ◌+◌, true, fold, map, Bool, false, ◌&&◌, ◌||◌, List, [], ◌∷◌, ◌++◌, if◌then◌else◌}
 use Rattle.i7_lexer.specs.declared.token.Token.{Token}
-use Rattle.i7_sentences.specs.Classes.{is_joint}
+use Rattle.i7_sentences.specs.Classes.{is_comma}
 use Rattle.i7_sentences.specs.Keywords.{is_article, is_sign}
-use Rattle.i7_sentences.specs.Words.{word_of}
+use Rattle.i7_sentences.specs.Words.{is_word, word_of}
 use Rattle.i7_sentences.specs.declared.keyword.Keyword.TheVariants as keyword
 use Rattle.i7_sentences.specs.declared.name.Name.{Name}
 use Rattle.i7_sentences.specs.declared.name.NameArticle.{NameArticle}
@@ -59,18 +59,32 @@ abbrev pub onto_name : Token → List (List Token) → List (List Token)
 onto_name word [] = (word ∷ []) ∷ []
 onto_name word (name ∷ names) = (word ∷ name) ∷ names
 
+abbrev pub opens_with_word : List Token → Bool
+opens_with_word [] = false
+opens_with_word (word ∷ words) = is_word word
+
+abbrev pub is_and : Token → Bool
+is_and token = is_sign keyword.And token
+
+abbrev pub is_joint : Token → Bool
+is_joint token = is_comma token || is_and token
+
+-- a `,` parts two names, and so does an `and` with a word behind it; at a name's end it belongs to the name
+abbrev pub parts_names : Token → List Token → Bool
+parts_names word words = is_comma word || (is_and word && opens_with_word words)
+
 -- the names of a list, from its first word or from within a name: what parts two names is in none, and
 -- the first word of a name parts none
 abbrev pub names_from : Bool → List Token → List (List Token)
 names_from true [] = []
 names_from false [] = [] ∷ []
 names_from true (word ∷ words) = onto_name word (names_from false words)
-names_from false (word ∷ words) = if is_joint word then [] ∷ names_from true words else onto_name word (names_from false words)
+names_from false (word ∷ words) = if parts_names word words then [] ∷ names_from true words else onto_name word (names_from false words)
 
 -- how many words stand in front of the first that parts two names
 abbrev pub unjoined : List Token → ℕ
 unjoined [] = 0
-unjoined (word ∷ words) = if is_joint word then 0 else 1 + unjoined words
+unjoined (word ∷ words) = if parts_names word words then 0 else 1 + unjoined words
 
 -- how many words the first name of a list has
 abbrev pub name_len : List Token → ℕ

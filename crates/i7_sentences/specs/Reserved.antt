@@ -1,8 +1,8 @@
 -- The reserved words: where in the letters of a form none may stand.
-use Rattle.std.specs.Prelude.{Bool, true, false, not, ◌&&◌, ◌||◌, List, [], ◌∷◌, if◌then◌else◌}
-use Rattle.std.specs.List.{list_any}
+use Rattle.std.specs.Prelude.{Bool, true, false, not, ◌&&◌, ◌||◌, List, [], ◌∷◌}
+use Rattle.std.specs.List.{list_any, slice_split}
 use Rattle.i7_lexer.specs.declared.token.Token.{Token}
-use Rattle.i7_sentences.specs.Keywords.{is_one_of, is_reserved, is_sign}
+use Rattle.i7_sentences.specs.Keywords.{is_article, is_one_of, is_reserved, is_sign}
 use Rattle.i7_sentences.specs.Names.{name_words, names_from}
 use Rattle.i7_sentences.specs.declared.keyword.Keyword.TheVariants as keyword
 use Rattle.i7_sentences.specs.declared.keyword.TheConstants.{RESERVED}
@@ -23,18 +23,18 @@ is_stray token = is_one_of RESERVED token && not (is_sign keyword.Not token)
 unfoldable pub is_stray_beside_and : Token → Bool
 is_stray_beside_and token = is_stray token && not (is_sign keyword.And token)
 
--- from the first word of an adjective, or behind it: an `and` stands at the front, at the end or behind another
-abbrev pub has_loose_and : Bool → List Token → Bool
-has_loose_and at_first [] = at_first
-has_loose_and at_first (token ∷ tokens) =
-    if is_sign keyword.And token then at_first || has_loose_and true tokens else has_loose_and false tokens
+-- no words are an adjective, nor is an article or `not` alone
+abbrev pub is_no_adjective : List Token → Bool
+is_no_adjective [] = true
+is_no_adjective (token ∷ []) = is_article token || is_sign keyword.Not token
+is_no_adjective (token ∷ next ∷ more) = false
 
 -- whether a letter of the class holds a reserved word where none may stand
 abbrev pub has_reserved_in : Class → List Token → Bool
 has_reserved_in class.Name letter = is_reserved_name letter
 has_reserved_in class.Names letter = list_any is_reserved_name (names_from true letter)
 has_reserved_in class.What letter = list_any is_stray letter
-has_reserved_in class.Usual letter = list_any is_stray_beside_and letter || has_loose_and true letter
+has_reserved_in class.Usual letter = list_any is_stray_beside_and letter || list_any is_no_adjective (slice_split (is_sign keyword.And) letter)
 has_reserved_in _ letter = false
 
 -- the letters of these pieces

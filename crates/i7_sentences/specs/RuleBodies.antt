@@ -1,6 +1,5 @@
 -- The body of a rule: its phrases, each with what it says and how deep it stands.
-use Rattle.std.specs.Prelude.{ℕ, ◌==◌, Bool, true, false, not, ◌&&◌, List, [], ◌∷◌, Option, Some, None, if◌then◌else◌}
-use Rattle.std.specs.List.{list_any}
+use Rattle.std.specs.Prelude.{ℕ, ◌==◌, Bool, true, false, not, ◌&&◌, List, [], ◌∷◌, Option, Some, None, find, option_map}
 use Rattle.i7_sentences.specs.Bodies.{Phrase}
 use Rattle.i7_sentences.specs.BodyOrder.{Place, after_phrase, body_fault, depth_of, has_instead, start, without_instead}
 use Rattle.i7_sentences.specs.Lowest.{lower_of}
@@ -54,21 +53,18 @@ is_otherwise _ = false
 unfoldable pub is_outermost : RulePhrase → Bool
 is_outermost phrase = (phrase.depth == 0) && not (is_otherwise phrase.said)
 
--- behind the first phrase stands another that doesn't belong to it
-abbrev pub has_another : List RulePhrase → Bool
-has_another [] = false
-has_another (phrase ∷ phrases) = list_any is_outermost phrases
+-- the line of the first that belongs to no other
+abbrev pub outermost_line : List RulePhrase → Option ℕ
+outermost_line phrases = option_map (λ (phrase : RulePhrase). phrase.line) (find is_outermost phrases)
 
-abbrev pub first_line : List Phrase → Option ℕ
-first_line [] = None
-first_line (phrase ∷ phrases) = Some phrase.line
-
--- where one phrase has to stand and several do, the line of the first
-abbrev pub several_line : Bool → List Phrase → List RulePhrase → Option ℕ
-several_line takes_one phrases said = if takes_one && has_another said then first_line phrases else None
+-- where one phrase has to stand and several do, the line of the second: the first behind the first that doesn't belong to it
+abbrev pub second_line : Bool → List RulePhrase → Option ℕ
+second_line false phrases = None
+second_line true [] = None
+second_line true (phrase ∷ phrases) = outermost_line phrases
 
 -- the lowest line at which a body isn't understood, if there is one: a phrase may not stand there, or says nothing, or several stand
 -- behind a rule's comma
 abbrev pub unread_line : ℕ → Bool → List Phrase → Option ℕ
 unread_line line takes_one phrases =
-    lower_of (several_line takes_one phrases (body_phrases line phrases)) (lower_of (body_fault line phrases) (unspoken_line phrases))
+    lower_of (second_line takes_one (body_phrases line phrases)) (lower_of (body_fault line phrases) (unspoken_line phrases))

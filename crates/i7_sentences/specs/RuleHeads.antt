@@ -1,12 +1,14 @@
 -- The heads of rules: the book, what is told behind its words, perhaps the rule's name, and behind them the body.
-use Rattle.std.specs.Prelude.{ℕ, ◌-◌, Bool, true, false, ◌&&◌, List, [], ◌∷◌, drop, length, map, Option, Some, None, if◌then◌else◌}
+use Rattle.std.specs.Prelude.{ℕ, Bool, true, false, ◌&&◌, List, [], ◌∷◌, map, Option, Some, None, if◌then◌else◌}
+use Rattle.std.specs.List.{after_first, before_first}
 use Rattle.i7_lexer.specs.declared.token.Token.{Token}
+use Rattle.i7_sentences.specs.Classes.{is_body_mark}
 use Rattle.i7_sentences.specs.Conditions.{is_condition}
 use Rattle.i7_sentences.specs.Forms.{Variant}
 use Rattle.i7_sentences.specs.HeadWords.{condition_in, scene_in, subject_of, words_if}
 use Rattle.i7_sentences.specs.Keywords.{is_sign}
 use Rattle.i7_sentences.specs.Matching.{Found, lowest_fit}
-use Rattle.i7_sentences.specs.Names.{named_in, rest_of, words_in}
+use Rattle.i7_sentences.specs.Names.{named_in, words_in}
 use Rattle.i7_sentences.specs.Reserved.{has_reserved_among}
 use Rattle.i7_sentences.specs.declared.form.Form.{Form}
 use Rattle.i7_sentences.specs.declared.form.Form.TheVariants as form
@@ -84,13 +86,9 @@ book_of named.SceneBegins letter = book.SceneBegins (words_in letter)
 book_of named.SceneEnds letter = book.SceneEnds (words_in letter)
 book_of named.Own letter = book.Own (named_in letter)
 
--- the rule's name, without the free article
+-- the rule's name
 abbrev pub name_if : Bool → List Token → Option (List (List ℕ))
-name_if is_named letter = if is_named then Some (named_in letter) else None
-
--- how many tokens stand behind the mark with which the last letter begins
-abbrev pub body_len : List Token → ℕ
-body_len letter = length (rest_of letter)
+name_if is_named letter = if is_named then Some (words_in letter) else None
 
 -- a body behind a comma, which is one phrase
 abbrev pub is_one_phrase : List Token → Bool
@@ -107,7 +105,6 @@ head_with head is_reserved own told name body = record {
   name = name_if head.is_named name;
   has_reserved_name = is_reserved;
   takes_one = is_one_phrase body;
-  body_len = body_len body;
 }
 
 abbrev pub head_behind : HeadForm → Bool → List Token → List Token → List (List Token) → Head
@@ -159,6 +156,9 @@ head_found (Some found) =
 unfoldable pub head_in : List Token → Option Head
 head_in tokens = head_found (lowest_fit rule_forms tokens)
 
--- the body stands at the end of the rule
-abbrev pub body_tokens : Head → List Token → List Token
-body_tokens head tokens = drop (length tokens - head.body_len) tokens
+-- no head has such a mark in it: its body stands behind the first
+abbrev pub head_tokens : List Token → List Token
+head_tokens tokens = before_first is_body_mark tokens
+
+abbrev pub body_tokens : List Token → List Token
+body_tokens tokens = after_first is_body_mark tokens

@@ -40,10 +40,10 @@ body_heard line head phrases =
     }))))
 
 -- a head that isn't understood is told at the rule's own line
-abbrev pub head_heard : List Token → Option Head → Heard
-head_heard tokens None = Unread (line_in tokens)
-head_heard tokens (Some head) = body_heard (line_in tokens) head (body_lines (body_tokens head tokens))
+abbrev pub head_heard : ℕ → Option Head → List Phrase → Heard
+head_heard line None phrases = Unread line
+head_heard line (Some head) phrases = body_heard line head phrases
 
 -- what a sentence says as a rule
 abbrev pub rule_heard : List Token → Heard
-rule_heard tokens = head_heard tokens (head_in tokens)
+rule_heard tokens = head_heard (line_in tokens) (head_in tokens) (body_lines (body_tokens tokens))

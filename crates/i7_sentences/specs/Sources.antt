@@ -10,7 +10,7 @@ use Rattle.i7_sentences.specs.Forms.{Variant}
 use Rattle.i7_sentences.specs.KindsOfValue.{kinds_of_value}
 use Rattle.i7_sentences.specs.Lowest.{IsLowest, IsNowhere}
 use Rattle.i7_sentences.specs.Names.{Words}
-use Rattle.i7_sentences.specs.Read.{heard_by}
+use Rattle.i7_sentences.specs.HeardForms.{heard_by}
 use Rattle.i7_sentences.specs.Assertions.{is_asserting, is_describing}
 use Rattle.i7_sentences.specs.Stretches.{Stretch, holds_bad_literal, stretches_of}
 use Rattle.i7_sentences.specs.Understood.{IsUnderstoodBy}

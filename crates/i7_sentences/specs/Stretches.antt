@@ -1,5 +1,5 @@
 -- The stretches of a source, of each of which one line is told, and literals out of range in them.
-use Rattle.std.specs.Prelude.{ℕ, ◌-◌, Bool, false, List, [], ◌∷◌, length, map, take, Option, Some, None, if◌then◌else◌}
+use Rattle.std.specs.Prelude.{ℕ, Bool, false, List, [], ◌∷◌, map, Option, Some, None, if◌then◌else◌}
 use Rattle.std.specs.List.{list_any}
 use Rattle.i7_lexer.specs.declared.token.Token.{Token}
 use Rattle.i7_lexer.specs.declared.token.TokenKind.{TokenKind}
@@ -11,11 +11,10 @@ use Rattle.world_meaning.specs.Literals.{is_out_of_range}
 use Rattle.i7_sentences.specs.Lowest.{lowest}
 use Rattle.i7_sentences.specs.Matching.{Found}
 use Rattle.i7_sentences.specs.Names.{Words}
-use Rattle.i7_sentences.specs.RuleHeads.{body_tokens, head_in, is_rule_form}
+use Rattle.i7_sentences.specs.RuleHeads.{body_tokens, head_tokens, is_rule_form}
 use Rattle.i7_sentences.specs.Understood.{understood_by}
 use Rattle.i7_sentences.specs.declared.part.PartKind.{PartKind}
 use Rattle.i7_sentences.specs.declared.part.PartKind.TheVariants.{Title, Heading, Sentence}
-use Rattle.i7_sentences.specs.declared.rule_head.Head.{Head}
 
 pub record Stretch : Type 0 where
   pub line : ℕ
@@ -27,20 +26,15 @@ whole tokens = record { line = line_in tokens; tokens = tokens }
 abbrev pub phrase_stretch : Phrase → Stretch
 phrase_stretch phrase = record { line = phrase.line; tokens = phrase.tokens }
 
--- the tokens of a rule in front of its body
-abbrev pub head_tokens : Head → List Token → List Token
-head_tokens head tokens = take (length tokens - head.body_len) tokens
-
--- a rule is its head and each phrase of its body, where the head is understood
-abbrev pub rule_stretches : List Token → Option Head → List Stretch
-rule_stretches tokens None = whole tokens ∷ []
-rule_stretches tokens (Some head) =
-    record { line = line_in tokens; tokens = head_tokens head tokens } ∷ map phrase_stretch (body_lines (body_tokens head tokens))
+-- a rule is its head and each phrase of its body, whether they are understood or not
+abbrev pub rule_stretches : List Token → List Stretch
+rule_stretches tokens =
+    record { line = line_in tokens; tokens = head_tokens tokens } ∷ map phrase_stretch (body_lines (body_tokens tokens))
 
 -- another sentence is one stretch
 abbrev pub read_stretches : List Token → Option Found → List Stretch
 read_stretches tokens None = whole tokens ∷ []
-read_stretches tokens (Some found) = if is_rule_form found.variant.form then rule_stretches tokens (head_in tokens) else whole tokens ∷ []
+read_stretches tokens (Some found) = if is_rule_form found.variant.form then rule_stretches tokens else whole tokens ∷ []
 
 -- in titles and headings none is told
 abbrev pub kind_stretches : List Words → PartKind → List Token → List Stretch

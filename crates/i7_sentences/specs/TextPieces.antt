@@ -4,6 +4,7 @@ use Rattle.std.specs.List.{after_first, before_first, flat_map, list_all, list_a
 use Rattle.world_meaning.specs.Spelling.{is_spelled}
 use Rattle.i7_lexer.specs.Bytes.{is_letter}
 use Rattle.i7_sentences.specs.BracketedWords.{is_byte, words_in}
+use Rattle.i7_sentences.specs.Words.{as_read}
 use Rattle.i7_sentences.specs.declared.text_reader.TheConstants.{APOSTROPHE, LINE_BREAK, PARAGRAPH_BREAK, OTHERWISE, END_IF, IF}
 use Rattle.i7_sentences.specs.declared.text_piece.TextPiece.{TextPiece}
 use Rattle.i7_sentences.specs.declared.text_piece.TextPiece.TheVariants.{Printed, Substitution, If, Otherwise, EndIf}
@@ -26,9 +27,10 @@ printed_from is_behind (b ∷ bytes) = printed_byte is_behind b bytes ∷ printe
 abbrev pub printed : List ℕ → List ℕ
 printed bytes = printed_from false bytes
 
+-- a word is read as one outside texts is: `are` as `is`
 abbrev pub run_word : List ℕ → List (List ℕ)
 run_word [] = []
-run_word (b ∷ bytes) = (b ∷ bytes) ∷ []
+run_word (b ∷ bytes) = as_read (b ∷ bytes) ∷ []
 
 -- the words among bytes, each by itself
 abbrev pub runs_of : List ℕ → List (List ℕ)

@@ -7,7 +7,7 @@ use Rattle.i7_lexer.specs.declared.token.TokenKind.{TokenKind}
 use Rattle.i7_lexer.specs.declared.token.TokenKind.TheVariants.{Text, Word, Mark}
 use Rattle.i7_sentences.specs.BracketedWords.{is_byte}
 use Rattle.i7_sentences.specs.Keywords.{is_sign}
-use Rattle.i7_sentences.specs.Names.{named_in}
+use Rattle.i7_sentences.specs.Names.{words_in}
 use Rattle.i7_sentences.specs.TextPieces.{behind_first, is_bracket_read, parts_of, runs_of}
 use Rattle.i7_sentences.specs.Words.{is_text}
 use Rattle.i7_sentences.specs.declared.keyword.Keyword.TheVariants as keyword
@@ -47,7 +47,7 @@ is_grammar_text text = list_all is_slot_read (behind_first (parts_of text))
 
 abbrev pub understands_so : List (List ℕ) → List Token → Option Assertion
 understands_so texts meaning =
-    if list_all is_grammar_text texts then Some (assertion.Understand (record { texts = texts; meaning = named_in meaning })) else None
+    if list_all is_grammar_text texts then Some (assertion.Understand (record { texts = texts; meaning = words_in meaning })) else None
 
 abbrev pub understands : List (List Token) → Option Assertion
 understands (texts ∷ meaning ∷ []) = if are_choices texts then understands_so (texts_in texts) meaning else None

@@ -1,13 +1,16 @@
--- By which form a sentence is understood: one that is no rule that is understood may be a sentence of a later form.
+-- By which form a sentence is understood: one that has the words of a rule or of what a scene begins or ends on, and not its shape, may be
+-- a sentence of a later form.
 use Rattle.std.specs.Prelude.{◌≡◌, ◌⊎◌, Bool, true, false, ◌&&◌, List, Option, Some, None, if◌then◌else◌}
 use Rattle.i7_lexer.specs.declared.token.Token.{Token}
 use Rattle.i7_sentences.specs.Forms.{Variant}
+use Rattle.i7_sentences.specs.HeardForms.{heard_by}
 use Rattle.i7_sentences.specs.Matching.{Found, or_later}
 use Rattle.i7_sentences.specs.Names.{Words}
 use Rattle.i7_sentences.specs.RuleHeads.{is_rule_form}
-use Rattle.i7_sentences.specs.Rules.{rule_heard}
 use Rattle.i7_sentences.specs.ValueFits.{read_later, read_with}
 use Rattle.i7_sentences.specs.ValueForms.{IsReadLater, IsReadWith, IsUnreadLater}
+use Rattle.i7_sentences.specs.declared.form.Form.{Form}
+use Rattle.i7_sentences.specs.declared.form.Form.TheVariants as form
 use Rattle.i7_sentences.specs.declared.heard.Heard.{Heard}
 use Rattle.i7_sentences.specs.declared.heard.Heard.TheVariants.{Says, Unread, Reserved}
 
@@ -16,13 +19,20 @@ is_unread (Says said) = false
 is_unread (Unread line) = true
 is_unread (Reserved line) = false
 
--- a rule's form reads the words, and as a rule they aren't understood
-abbrev pub is_passed_on : List Token → Variant → Bool
-is_passed_on tokens rule = is_rule_form rule.form && is_unread (rule_heard tokens)
+-- the forms whose letters have a shape that no class tells: those of rules, and of what a scene begins or ends on
+abbrev pub is_shaped : Form → Bool
+is_shaped form.SceneBegins = true
+is_shaped form.SceneEnds = true
+is_shaped other = is_rule_form other
 
--- so the forms behind those of rules are looked at, and where none of them fits it is a rule that isn't understood
+-- such a form reads the words, and they lack its shape
+abbrev pub is_passed_on : List Words → List Token → Variant → List (List Token) → Bool
+is_passed_on kinds tokens variant letters = is_shaped variant.form && is_unread (heard_by kinds tokens variant letters)
+
+-- so the later forms are looked at, and where none of them fits it is a sentence of this form that isn't understood
 unfoldable pub passed_on : List Words → List Token → Found → Option Found
-passed_on kinds tokens found = if is_passed_on tokens found.variant then or_later (read_later kinds tokens) (Some found) else Some found
+passed_on kinds tokens found =
+    if is_passed_on kinds tokens found.variant found.letters then or_later (read_later kinds tokens) (Some found) else Some found
 
 abbrev pub understood_from : List Words → List Token → Option Found → Option Found
 understood_from kinds tokens None = None
@@ -36,15 +46,15 @@ understood_by kinds tokens = understood_from kinds tokens (read_with kinds token
 
 -- a form reads the words, and they aren't passed on
 abbrev pub IsKept : List Words → List Token → Variant → List (List Token) → Type 0
-IsKept kinds tokens variant letters = IsReadWith kinds tokens variant letters × (is_passed_on tokens variant ≡ false)
+IsKept kinds tokens variant letters = IsReadWith kinds tokens variant letters × (is_passed_on kinds tokens variant letters ≡ false)
 
--- a rule's form reads the words, and they are passed on
+-- a form reads the words, and they are passed on
 abbrev pub IsPassedOn : List Words → List Token → Variant → List (List Token) → Type 0
-IsPassedOn kinds tokens rule letters = IsReadWith kinds tokens rule letters × (is_passed_on tokens rule ≡ true)
+IsPassedOn kinds tokens variant letters = IsReadWith kinds tokens variant letters × (is_passed_on kinds tokens variant letters ≡ true)
 
 -- they are passed on, and a later form reads them
 abbrev pub IsTaken : List Words → List Token → Variant → List (List Token) → Type 0
-IsTaken kinds tokens variant letters = ((rule : Variant) × (head : List (List Token)) × IsPassedOn kinds tokens rule head) × IsReadLater kinds tokens variant letters
+IsTaken kinds tokens variant letters = ((first : Variant) × (others : List (List Token)) × IsPassedOn kinds tokens first others) × IsReadLater kinds tokens variant letters
 
 -- they are passed on, and no later form reads them
 abbrev pub IsLeft : List Words → List Token → Variant → List (List Token) → Type 0

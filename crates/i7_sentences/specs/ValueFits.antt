@@ -53,7 +53,7 @@ abbrev pub lowest_value : List ValueForm → List Words → List Token → Optio
 lowest_value [] kinds tokens = None
 lowest_value (form ∷ forms) kinds tokens = or_later (form_fit kinds form tokens) (lowest_value forms kinds tokens)
 
--- how a sentence is read by the forms behind those of rules, where these kinds of value are declared
+-- how a sentence is read by the forms behind the lower ones, where these kinds of value are declared
 abbrev pub read_later : List Words → List Token → Option Found
 read_later kinds tokens = or_later (lowest_fit middle_forms tokens) (or_later (lowest_value value_forms kinds tokens) (lowest_fit higher_forms tokens))
 

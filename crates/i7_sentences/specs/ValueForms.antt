@@ -86,7 +86,7 @@ pub record IsValueReading (kinds : List Words) (tokens : List Token) (variant : 
   pub is_variant : variant ≡ form.variant
   pub reads : ReadsValue value_forms kinds tokens form letters
 
--- The forms behind those of rules read a sentence: a middle form does; or none fits, and a value form does; or none of these fits,
+-- The forms behind the lower ones read a sentence: a middle form does; or none fits, and a value form does; or none of these fits,
 -- and a higher form does.
 abbrev pub IsReadLater : List Words → List Token → Variant → List (List Token) → Type 0
 IsReadLater kinds tokens variant letters =

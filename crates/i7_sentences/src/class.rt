@@ -1,7 +1,7 @@
 //! The classes of words that a form's letters stand for: each a small automaton over tokens.
 ghost use Rattle.std.specs.Prelude.{◌≡◌};
 ghost use Rattle.i7_sentences.specs.Automata.{accepts, alone_step, asked_step, body_step, names_step, run_step, side_start, side_step, step};
-ghost use Rattle.i7_sentences.specs.Classes.{is_body_mark, is_degree, is_head_token, is_inner, is_choice, is_joint, is_name_word, is_vertical};
+ghost use Rattle.i7_sentences.specs.Classes.{is_body_mark, is_choice, is_comma, is_degree, is_head_token, is_inner, is_listed_word, is_vertical};
 
 use crate::Keyword;
 use crate::tagged::Tagged;
@@ -51,20 +51,19 @@ pub enum State {
     Beside,
 }
 
-/// Whether the token parts two names.
-#[tactic(auto, unfolding(crate::specs::Classes::is_joint))]
-pub fn is_joint(token: &Tagged<'_>) -> bool
-    ensures { result ≡ is_joint token.now }
+#[tactic(auto, unfolding(crate::specs::Classes::is_comma))]
+pub fn is_comma(token: &Tagged<'_>) -> bool
+    ensures { result ≡ is_comma token.now }
 {
-    token.is_sign(Keyword::Comma) || token.is_sign(Keyword::And)
+    token.is_sign(Keyword::Comma)
 }
 
-/// Whether the token is a word that may stand in a name of a list, behind its first.
-#[tactic(auto, unfolding(crate::specs::Classes::is_name_word))]
-fn is_name_word(token: &Tagged<'_>) -> bool
-    ensures { result ≡ is_name_word token.now }
+/// Whether the token is a word that may stand in an item of a list, behind its first.
+#[tactic(auto, unfolding(crate::specs::Classes::is_listed_word))]
+fn is_listed_word(token: &Tagged<'_>) -> bool
+    ensures { result ≡ is_listed_word token.now }
 {
-    token.is_word() && !is_joint(token)
+    token.is_word() && !is_comma(token)
 }
 
 #[tactic(auto, unfolding(crate::specs::Classes::is_vertical))]
@@ -129,10 +128,10 @@ pub fn names_step(state: State, token: &Tagged<'_>) -> Option<State>
     match state {
         State::Start | State::Between => run_step(token.is_word()),
         State::Inside => {
-            if is_joint(token) {
+            if is_comma(token) {
                 Some(State::Between)
             } else {
-                run_step(is_name_word(token))
+                run_step(is_listed_word(token))
             }
         }
         State::Beside => None,
@@ -175,7 +174,7 @@ pub fn side_step(state: State, token: &Tagged<'_>) -> Option<State>
 
 /// Whether the token ends a rule's head.
 #[tactic(auto, unfolding(crate::specs::Classes::is_body_mark))]
-fn is_body_mark(token: &Tagged<'_>) -> bool
+pub fn is_body_mark(token: &Tagged<'_>) -> bool
     ensures { result ≡ is_body_mark token.now }
 {
     token.is_sign(Keyword::Colon) || token.is_sign(Keyword::Comma)

@@ -8,7 +8,7 @@ use crate::brackets::in_front_of_closing;
 use crate::tagged::Tagged;
 use crate::text_reader::{first_part, is_bracket_read};
 use crate::text_words::runs_of;
-use crate::word_list::named_in;
+use crate::word_list::words_in;
 use crate::{Assertion, Keyword, WordList};
 use i7_lexer::TokenKind;
 use std::alloc::{AllocError, Global};
@@ -19,7 +19,7 @@ use world_meaning::{Listed, TextBytes, is_spelled};
 pub struct Understanding {
     /// The texts that `or` parts, as they are written; between brackets stands `something` or `direction` alone.
     pub texts: Listed<TextBytes>,
-    /// The words behind `as`, without the free article in front.
+    /// The words behind `as`, a free article among them.
     pub meaning: WordList,
 }
 
@@ -140,7 +140,7 @@ fn understands_so(
     }
     Ok(Some(Assertion::Understand(Understanding {
         texts: Listed::new(texts),
-        meaning: named_in(alloc, meaning)?,
+        meaning: words_in(alloc, meaning)?,
     })))
 }
 

@@ -1,9 +1,8 @@
 //! The kinds of value that a source declares, which a first look at its sentences finds.
 ghost use Rattle.std.specs.Prelude.{◌≡◌, false, is_some, map, option_map, IfOk, None, if◌then◌else◌};
-ghost use Rattle.i7_sentences.specs.Forms.{middle_forms};
 ghost use Rattle.i7_sentences.specs.Keywords.{is_sign};
-ghost use Rattle.i7_sentences.specs.KindsOfValue.{declared_by, declared_in, ends_in_value, first_name, is_value_itself, kinds_of_value, opens_with_value, speaks_of_value};
-ghost use Rattle.i7_sentences.specs.Matching.{best_fit, first_fit, lowest_fit};
+ghost use Rattle.i7_sentences.specs.KindsOfValue.{declared_by, declared_in, ends_in_value, first_name, is_read_before, is_value_itself, kinds_of_value, opens_with_value, speaks_of_value};
+ghost use Rattle.i7_sentences.specs.Matching.{best_fit, first_fit};
 ghost use Rattle.i7_sentences.specs.Pieces.{piece_of, pieces_of};
 ghost use Rattle.i7_sentences.specs.declared.keyword.Keyword.TheVariants.{Value};
 ghost use Rattle.i7_sentences.specs.declared.part.PartKind.TheVariants.{Sentence};
@@ -12,7 +11,7 @@ ghost use Rattle.i7_sentences.specs.declared.value_form.TheConstants.{KIND_OF_VA
 use crate::column_stack::ColumnStack;
 use crate::keyword::keyword_of;
 use crate::matcher::fit;
-use crate::reading::middle_reading;
+use crate::reading::{lower_reading, middle_reading};
 use crate::signs::signs_of;
 use crate::tagged::{Tagged, with_tags};
 use crate::value_form::{KIND_OF_VALUE, VALUE_ITSELF};
@@ -97,16 +96,30 @@ fn first_name(
     }
 }
 
-/// The kind of value that the words declare, if no middle form reads them.
+/// Whether a form reads the words that is tried before those that speak of kinds of value.
+fn is_read_before(
+    alloc: Global,
+    tokens: &[Tagged<'_>],
+    columns: &mut ColumnStack,
+) -> Result<bool, AllocError>
+    ensures { IfOk result (λ is. is ≡ is_read_before tokens.now) }
+{
+    let signs = signs_of(tokens);
+    if lower_reading(alloc, &signs, tokens, columns)?.is_some() {
+        return Ok(true);
+    }
+    Ok(middle_reading(alloc, &signs, tokens, columns)?.is_some())
+}
+
+/// The kind of value that the words declare, if no form reads them that is tried before.
 fn declared_name(
     alloc: Global,
     tokens: &[Tagged<'_>],
     columns: &mut ColumnStack,
 ) -> Result<Option<WordList>, AllocError>
-    ensures { IfOk result (λ name. name ≡ (if is_some (lowest_fit middle_forms tokens.now) then None else first_name (first_fit KIND_OF_VALUE.now tokens.now))) }
+    ensures { IfOk result (λ name. name ≡ (if is_read_before tokens.now then None else first_name (first_fit KIND_OF_VALUE.now tokens.now))) }
 {
-    let signs = signs_of(tokens);
-    if middle_reading(alloc, &signs, tokens, columns)?.is_some() {
+    if is_read_before(alloc, tokens, columns)? {
         return Ok(None);
     }
     Ok(first_name(alloc, fit(alloc, KIND_OF_VALUE, tokens, columns)?)?)

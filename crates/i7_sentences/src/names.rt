@@ -1,12 +1,11 @@
 //! Lists of names, parted by `,` or `and`.
 ghost use Rattle.std.specs.Prelude.{◌≡◌, true, ◌+◌, ◌<◌, ◌≤◌, count_by, length, map, IfOk};
-ghost use Rattle.i7_sentences.specs.Classes.{is_joint};
-ghost use Rattle.i7_sentences.specs.Names.{name_len, name_of, names_from, unjoined};
+ghost use Rattle.i7_sentences.specs.Names.{is_and, is_joint, name_len, name_of, names_from, opens_with_word, parts_names, unjoined};
 
-use crate::Name;
-use crate::class::is_joint;
+use crate::class::is_comma;
 use crate::name::{name_of, rest_of};
 use crate::tagged::Tagged;
+use crate::{Keyword, Name};
 use std::alloc::{AllocError, Global};
 use std::marker::Model;
 
@@ -34,6 +33,29 @@ impl Names {
     }
 }
 
+/// Whether a word stands first.
+fn opens_with_word(words: &[Tagged<'_>]) -> bool
+    ensures { result ≡ opens_with_word words.now }
+{
+    match words {
+        [] => false,
+        [word, ..] => word.is_word(),
+    }
+}
+
+fn is_and(word: &Tagged<'_>) -> bool
+    ensures { result ≡ is_and word.now }
+{
+    word.is_sign(Keyword::And)
+}
+
+/// Whether a word parts two names, in front of these: at a name's end `and` belongs to the name.
+fn parts_names(word: &Tagged<'_>, behind: &[Tagged<'_>]) -> bool
+    ensures { result ≡ parts_names word.now behind.now }
+{
+    is_comma(word) || is_and(word) && opens_with_word(behind)
+}
+
 /// How many words stand in front of the first that parts two names.
 fn unjoined(words: &[Tagged<'_>]) -> usize
     ensures count { result ≡ unjoined words.now }
@@ -42,7 +64,7 @@ fn unjoined(words: &[Tagged<'_>]) -> usize
     let mut count = 0;
     let mut rest = words;
     while let [word, after @ ..] = rest {
-        if is_joint(word) {
+        if parts_names(word, after) {
             return count;
         }
         count += 1;
@@ -60,6 +82,13 @@ pub fn name_len(words: &[Tagged<'_>]) -> usize
         [] => 0,
         [_, rest @ ..] => 1 + unjoined(rest),
     }
+}
+
+/// Whether the word may part two names.
+fn is_joint(word: &Tagged<'_>) -> bool
+    ensures { result ≡ is_joint word.now }
+{
+    is_comma(word) || is_and(word)
 }
 
 /// How many names a list has at most.

@@ -7,11 +7,12 @@ ghost use Rattle.i7_sentences.specs.Cuts.{parts_of};
 ghost use Rattle.i7_sentences.specs.KindsOfValue.{kinds_of_value};
 ghost use Rattle.i7_sentences.specs.Lowest.{lowest};
 ghost use Rattle.i7_sentences.specs.Pieces.{piece_of, pieces_of};
-ghost use Rattle.i7_sentences.specs.Read.{IsHeardAs, IsHeardOr, heard_in, named_heard, plain_heard, read_of, reserved_in, sentence_in, unread_in, plain_found};
+ghost use Rattle.i7_sentences.specs.HeardForms.{named_heard, plain_heard, plain_found};
+ghost use Rattle.i7_sentences.specs.Read.{IsHeardAs, IsHeardOr, heard_in, read_of, reserved_in, sentence_in, unread_in};
 ghost use Rattle.i7_sentences.specs.Reserved.{has_reserved_among};
 ghost use Rattle.i7_sentences.specs.Sources.{HasSentences, IsRefused};
 ghost use Rattle.i7_sentences.specs.Stretches.{bad_literal_of};
-ghost use Rattle.i7_sentences.specs.Understood.{passed_on, understood_by};
+ghost use Rattle.i7_sentences.specs.Understood.{is_shaped, passed_on, understood_by};
 ghost use Rattle.i7_sentences.specs.ValueFits.{read_later};
 ghost use Rattle.i7_sentences.specs.declared.heard.Heard.TheVariants.{Unread};
 ghost use Rattle.i7_sentences.specs.Found.{found_in};
@@ -30,7 +31,7 @@ use crate::rule_reader::rule_part;
 use crate::stretch::bad_literal_in;
 use crate::tagged::{Tagged, with_tags};
 use crate::value_reading::{later_reading, reading_with};
-use crate::{Assertion, Part, PartKind, Sentence, WordList};
+use crate::{Assertion, Form, Part, PartKind, Sentence, WordList};
 use i7_lexer::{Lexed, PackedToken};
 use std::alloc::{AllocError, Global};
 use world_meaning::{Fault, FaultCode};
@@ -127,7 +128,17 @@ fn later_part(
     }
 }
 
-/// What a sentence says that this form reads, or else a later form, if it isn't understood as the rule that it would be.
+/// Whether the letters of a form have a shape that no class tells: those of rules, and of what a scene begins or ends on.
+fn is_shaped(form: Form) -> bool
+    ensures { result ≡ is_shaped form }
+{
+    match form {
+        Form::SceneBegins | Form::SceneEnds => true,
+        _ => is_rule_form(form),
+    }
+}
+
+/// What a sentence says that this form reads, or else a later form, if it has the words of this form and not its shape.
 #[tactic(auto, using(crate::proofs::Understood::passing))]
 fn understood_part(
     alloc: Global,
@@ -151,7 +162,7 @@ fn understood_part(
             bad_literal,
         }),
         Heard::Unread(line) => {
-            if !is_rule_form(reading.form) {
+            if !is_shaped(reading.form) {
                 return Ok(HeardPart {
                     heard: Heard::Unread(line),
                     bad_literal,

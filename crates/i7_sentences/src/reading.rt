@@ -16,10 +16,10 @@ use crate::{Form, FormRow, Keyword, Piece};
 use std::alloc::{AllocError, Global};
 
 /// The lower forms at one place of memory.
-static LOWER: [FormRow; 13] = LOWER_FORMS;
+static LOWER: [FormRow; 14] = LOWER_FORMS;
 
 /// The middle forms.
-static MIDDLE: [FormRow; 5] = MIDDLE_FORMS;
+static MIDDLE: [FormRow; 4] = MIDDLE_FORMS;
 
 /// The higher forms.
 static HIGHER: [FormRow; 12] = HIGHER_FORMS;

@@ -1,8 +1,10 @@
 //! The reserved words: where in the letters of a form none may stand.
 ghost use Rattle.std.specs.Prelude.{◌≡◌, true, map};
-ghost use Rattle.std.specs.List.{list_any};
+ghost use Rattle.std.specs.List.{list_any, slice_split};
+ghost use Rattle.i7_sentences.specs.Keywords.{is_sign};
 ghost use Rattle.i7_sentences.specs.Names.{names_from};
-ghost use Rattle.i7_sentences.specs.Reserved.{has_loose_and, has_reserved_among, has_reserved_in, is_reserved_name, is_stray, is_stray_beside_and};
+ghost use Rattle.i7_sentences.specs.Reserved.{has_reserved_among, has_reserved_in, is_no_adjective, is_reserved_name, is_stray, is_stray_beside_and};
+ghost use Rattle.i7_sentences.specs.declared.keyword.Keyword.TheVariants as keyword;
 
 use crate::name::{name_words, rest_of};
 use crate::names::name_len;
@@ -62,21 +64,24 @@ fn has_stray_beside_and(letter: &[Tagged<'_>]) -> bool
     letter.iter().any(|token| is_stray_beside_and(token))
 }
 
-/// Whether an adjective lacks before or behind an `and`.
-fn has_loose_and(letter: &[Tagged<'_>]) -> bool
-    ensures { result ≡ has_loose_and true letter.now }
+/// Whether the words are none, or an article or `not` alone.
+fn is_no_adjective(words: &[Tagged<'_>]) -> bool
+    ensures { result ≡ is_no_adjective words.now }
 {
-    let mut at_first = true;
-    let mut rest = letter;
-    while let [token, after @ ..] = rest {
-        let parts = token.is_sign(Keyword::And);
-        if parts && at_first {
-            return true;
-        }
-        at_first = parts;
-        rest = after;
+    match words {
+        [] => true,
+        [word] => word.is_article() || word.is_sign(Keyword::Not),
+        _ => false,
     }
-    at_first
+}
+
+/// Whether an adjective lacks before or behind an `and`.
+fn lacks_adjective(letter: &[Tagged<'_>]) -> bool
+    ensures { result ≡ list_any is_no_adjective (slice_split (is_sign keyword.And) letter.now) }
+{
+    letter
+        .split(|token| token.is_sign(Keyword::And))
+        .any(|part| is_no_adjective(part))
 }
 
 /// Whether a letter of the class holds a reserved word where none may stand.
@@ -87,7 +92,7 @@ fn has_reserved_in(class: Class, letter: &[Tagged<'_>]) -> bool
         Class::Name => is_reserved_name(letter),
         Class::Names => has_reserved_name(letter),
         Class::What => has_stray(letter),
-        Class::Usual => has_stray_beside_and(letter) || has_loose_and(letter),
+        Class::Usual => has_stray_beside_and(letter) || lacks_adjective(letter),
         _ => false,
     }
 }

@@ -1,9 +1,8 @@
 //! Reading the body of a rule: what each phrase says, and how deep it stands.
 ghost use Rattle.std.specs.Prelude.{◌≡◌, Some, IfOk};
-ghost use Rattle.std.specs.List.{list_any};
 ghost use Rattle.i7_sentences.specs.Bodies.{phrase_of, phrases_of};
 ghost use Rattle.i7_sentences.specs.BodyOrder.{or_else, place_of, reserved_line};
-ghost use Rattle.i7_sentences.specs.RuleBodies.{body_phrases, first_line, has_another, is_otherwise, is_outermost, phrase_at, several_line, spoken_phrase, unread_line, unspoken_line};
+ghost use Rattle.i7_sentences.specs.RuleBodies.{body_phrases, is_otherwise, is_outermost, outermost_line, phrase_at, second_line, spoken_phrase, unread_line, unspoken_line};
 
 use crate::body::PhraseLine;
 use crate::body_order::{body_fault, has_instead, reserved_line, without_instead};
@@ -108,48 +107,30 @@ fn is_outermost(phrase: &RulePhrase) -> bool
     phrase.depth == 0 && !is_otherwise(&phrase.said)
 }
 
-/// Whether one of the phrases belongs to no other.
-fn any_outermost(phrases: &[RulePhrase]) -> bool
-    ensures { result ≡ list_any is_outermost phrases.now }
+/// The line of the first phrase that belongs to no other.
+fn outermost_line(phrases: &[RulePhrase]) -> Option<u32>
+    ensures { result ≡ outermost_line phrases.now }
 {
     let mut rest = phrases;
     while let [phrase, after @ ..] = rest {
         if is_outermost(phrase) {
-            return true;
+            return Some(phrase.line);
         }
         rest = after;
     }
-    false
+    None
 }
 
-/// Whether another phrase stands behind the first, and doesn't belong to it.
-fn has_another(phrases: &[RulePhrase]) -> bool
-    ensures { result ≡ has_another phrases.now }
+/// The line of the second phrase, where one has to stand and several do.
+fn second_line(takes_one: bool, phrases: &[RulePhrase]) -> Option<u32>
+    ensures { result ≡ second_line takes_one phrases.now }
 {
-    match phrases {
-        [] => false,
-        [_, others @ ..] => any_outermost(others),
+    if !takes_one {
+        return None;
     }
-}
-
-/// The line of the first phrase.
-fn first_line(phrases: &[PhraseLine<'_>]) -> Option<u32>
-    ensures { result ≡ first_line (phrases_of phrases.now) }
-{
     match phrases {
         [] => None,
-        [phrase, ..] => Some(phrase.line),
-    }
-}
-
-/// The line of the first phrase, where one has to stand and several do.
-fn several_line(takes_one: bool, phrases: &[PhraseLine<'_>], said: &[RulePhrase]) -> Option<u32>
-    ensures { result ≡ several_line takes_one (phrases_of phrases.now) said.now }
-{
-    if takes_one && has_another(said) {
-        first_line(phrases)
-    } else {
-        None
+        [_, others @ ..] => outermost_line(others),
     }
 }
 
@@ -166,10 +147,10 @@ pub fn read_body(
 {
     let spoken = spoken_body(alloc, line, phrases)?;
     let misplaced = lower_of(body_fault(alloc, line, phrases)?, spoken.unspoken);
-    let several = several_line(takes_one, phrases, spoken.body.as_slice());
+    let second = second_line(takes_one, spoken.body.as_slice());
     Ok(BodyRead {
         body: spoken.body,
-        unread: lower_of(several, misplaced),
+        unread: lower_of(second, misplaced),
         reserved: reserved_line(alloc, phrases)?,
     })
 }

@@ -51,7 +51,7 @@ pub enum HeadParts {
 pub struct HeadForm {
     pub book: HeadBook,
     pub parts: HeadParts,
-    /// Whether `(this is the W rule)` stands in front of the body; the article is free.
+    /// Whether `(this is the W rule)` stands in front of the body.
     pub is_named: bool,
 }
 
@@ -101,6 +101,8 @@ const THIS: Piece = Word(Keyword::This);
 
 const IS: Piece = Word(Keyword::Is);
 
+const THE: Piece = Word(Keyword::The);
+
 const CLOSE: Piece = Word(Keyword::Close);
 
 /// The forms of rules, of which the first that fits is meant: one for each book, in the order of the sentence forms.
@@ -114,7 +116,7 @@ pub const RULE_FORMS: [FormRow; 11] = [
             ),
             (
                 Form::NamedHead(HeadBook::Before, HeadParts::Pattern),
-                &[BEFORE, WORDS, OPEN, THIS, IS, WORDS, RULE, CLOSE, BODY],
+                &[BEFORE, WORDS, OPEN, THIS, IS, THE, WORDS, RULE, CLOSE, BODY],
             ),
         ],
     ),
@@ -127,7 +129,9 @@ pub const RULE_FORMS: [FormRow; 11] = [
             ),
             (
                 Form::NamedHead(HeadBook::Instead, HeadParts::Pattern),
-                &[INSTEAD, OF, WORDS, OPEN, THIS, IS, WORDS, RULE, CLOSE, BODY],
+                &[
+                    INSTEAD, OF, WORDS, OPEN, THIS, IS, THE, WORDS, RULE, CLOSE, BODY,
+                ],
             ),
         ],
     ),
@@ -140,7 +144,7 @@ pub const RULE_FORMS: [FormRow; 11] = [
             ),
             (
                 Form::NamedHead(HeadBook::Check, HeadParts::Pattern),
-                &[CHECK, WORDS, OPEN, THIS, IS, WORDS, RULE, CLOSE, BODY],
+                &[CHECK, WORDS, OPEN, THIS, IS, THE, WORDS, RULE, CLOSE, BODY],
             ),
         ],
     ),
@@ -153,7 +157,9 @@ pub const RULE_FORMS: [FormRow; 11] = [
             ),
             (
                 Form::NamedHead(HeadBook::CarryOut, HeadParts::Pattern),
-                &[CARRY, OUT, WORDS, OPEN, THIS, IS, WORDS, RULE, CLOSE, BODY],
+                &[
+                    CARRY, OUT, WORDS, OPEN, THIS, IS, THE, WORDS, RULE, CLOSE, BODY,
+                ],
             ),
         ],
     ),
@@ -166,7 +172,7 @@ pub const RULE_FORMS: [FormRow; 11] = [
             ),
             (
                 Form::NamedHead(HeadBook::After, HeadParts::Pattern),
-                &[AFTER, WORDS, OPEN, THIS, IS, WORDS, RULE, CLOSE, BODY],
+                &[AFTER, WORDS, OPEN, THIS, IS, THE, WORDS, RULE, CLOSE, BODY],
             ),
         ],
     ),
@@ -179,7 +185,7 @@ pub const RULE_FORMS: [FormRow; 11] = [
             ),
             (
                 Form::NamedHead(HeadBook::Report, HeadParts::Pattern),
-                &[REPORT, WORDS, OPEN, THIS, IS, WORDS, RULE, CLOSE, BODY],
+                &[REPORT, WORDS, OPEN, THIS, IS, THE, WORDS, RULE, CLOSE, BODY],
             ),
         ],
     ),
@@ -192,7 +198,7 @@ pub const RULE_FORMS: [FormRow; 11] = [
             ),
             (
                 Form::NamedHead(HeadBook::EveryTurn, HeadParts::Nothing),
-                &[EVERY, TURN, OPEN, THIS, IS, WORDS, RULE, CLOSE, BODY],
+                &[EVERY, TURN, OPEN, THIS, IS, THE, WORDS, RULE, CLOSE, BODY],
             ),
             (
                 Form::Head(HeadBook::EveryTurn, HeadParts::Place),
@@ -201,7 +207,7 @@ pub const RULE_FORMS: [FormRow; 11] = [
             (
                 Form::NamedHead(HeadBook::EveryTurn, HeadParts::Place),
                 &[
-                    EVERY, TURN, IN, WORDS, OPEN, THIS, IS, WORDS, RULE, CLOSE, BODY,
+                    EVERY, TURN, IN, WORDS, OPEN, THIS, IS, THE, WORDS, RULE, CLOSE, BODY,
                 ],
             ),
             (
@@ -211,7 +217,7 @@ pub const RULE_FORMS: [FormRow; 11] = [
             (
                 Form::NamedHead(HeadBook::EveryTurn, HeadParts::Scene),
                 &[
-                    EVERY, TURN, DURING, WORDS, OPEN, THIS, IS, WORDS, RULE, CLOSE, BODY,
+                    EVERY, TURN, DURING, WORDS, OPEN, THIS, IS, THE, WORDS, RULE, CLOSE, BODY,
                 ],
             ),
             (
@@ -221,7 +227,7 @@ pub const RULE_FORMS: [FormRow; 11] = [
             (
                 Form::NamedHead(HeadBook::EveryTurn, HeadParts::Condition),
                 &[
-                    EVERY, TURN, WHEN, WORDS, OPEN, THIS, IS, WORDS, RULE, CLOSE, BODY,
+                    EVERY, TURN, WHEN, WORDS, OPEN, THIS, IS, THE, WORDS, RULE, CLOSE, BODY,
                 ],
             ),
         ],
@@ -235,7 +241,9 @@ pub const RULE_FORMS: [FormRow; 11] = [
             ),
             (
                 Form::NamedHead(HeadBook::PlayBegins, HeadParts::Nothing),
-                &[WHEN, PLAY, BEGINS, OPEN, THIS, IS, WORDS, RULE, CLOSE, BODY],
+                &[
+                    WHEN, PLAY, BEGINS, OPEN, THIS, IS, THE, WORDS, RULE, CLOSE, BODY,
+                ],
             ),
         ],
     ),
@@ -248,7 +256,9 @@ pub const RULE_FORMS: [FormRow; 11] = [
             ),
             (
                 Form::NamedHead(HeadBook::SceneBegins, HeadParts::Nothing),
-                &[WHEN, NAME, BEGINS, OPEN, THIS, IS, WORDS, RULE, CLOSE, BODY],
+                &[
+                    WHEN, NAME, BEGINS, OPEN, THIS, IS, THE, WORDS, RULE, CLOSE, BODY,
+                ],
             ),
         ],
     ),
@@ -261,7 +271,9 @@ pub const RULE_FORMS: [FormRow; 11] = [
             ),
             (
                 Form::NamedHead(HeadBook::SceneEnds, HeadParts::Nothing),
-                &[WHEN, NAME, ENDS, OPEN, THIS, IS, WORDS, RULE, CLOSE, BODY],
+                &[
+                    WHEN, NAME, ENDS, OPEN, THIS, IS, THE, WORDS, RULE, CLOSE, BODY,
+                ],
             ),
         ],
     ),
@@ -274,7 +286,7 @@ pub const RULE_FORMS: [FormRow; 11] = [
             ),
             (
                 Form::NamedHead(HeadBook::Own, HeadParts::Nothing),
-                &[WORDS, RULE, OPEN, THIS, IS, WORDS, RULE, CLOSE, BODY],
+                &[WORDS, RULE, OPEN, THIS, IS, THE, WORDS, RULE, CLOSE, BODY],
             ),
             (
                 Form::Head(HeadBook::Own, HeadParts::Place),
@@ -283,7 +295,7 @@ pub const RULE_FORMS: [FormRow; 11] = [
             (
                 Form::NamedHead(HeadBook::Own, HeadParts::Place),
                 &[
-                    WORDS, RULE, IN, WORDS, OPEN, THIS, IS, WORDS, RULE, CLOSE, BODY,
+                    WORDS, RULE, IN, WORDS, OPEN, THIS, IS, THE, WORDS, RULE, CLOSE, BODY,
                 ],
             ),
             (
@@ -293,7 +305,7 @@ pub const RULE_FORMS: [FormRow; 11] = [
             (
                 Form::NamedHead(HeadBook::Own, HeadParts::Scene),
                 &[
-                    WORDS, RULE, DURING, WORDS, OPEN, THIS, IS, WORDS, RULE, CLOSE, BODY,
+                    WORDS, RULE, DURING, WORDS, OPEN, THIS, IS, THE, WORDS, RULE, CLOSE, BODY,
                 ],
             ),
             (
@@ -303,7 +315,7 @@ pub const RULE_FORMS: [FormRow; 11] = [
             (
                 Form::NamedHead(HeadBook::Own, HeadParts::Condition),
                 &[
-                    WORDS, RULE, WHEN, WORDS, OPEN, THIS, IS, WORDS, RULE, CLOSE, BODY,
+                    WORDS, RULE, WHEN, WORDS, OPEN, THIS, IS, THE, WORDS, RULE, CLOSE, BODY,
                 ],
             ),
         ],

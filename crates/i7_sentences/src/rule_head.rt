@@ -1,13 +1,14 @@
 //! What the head of a rule says.
-ghost use Rattle.std.specs.Prelude.{◌≡◌, map, option_map, IfOk};
+ghost use Rattle.std.specs.Prelude.{◌≡◌, ◌≤◌, length, map, option_map, IfOk};
+ghost use Rattle.std.specs.List.{position_or_len};
+ghost use Rattle.i7_sentences.specs.Classes.{is_body_mark};
 ghost use Rattle.i7_sentences.specs.Found.{found_in};
-ghost use Rattle.i7_sentences.specs.Stretches.{head_tokens};
-ghost use Rattle.i7_sentences.specs.RuleHeads.{behind_if, body_len, body_tokens, book_of, has_own_name, has_parts, has_scene, has_shape, has_subject, head_as, head_found, head_in, head_of, if_understood, is_one_phrase, is_there, is_understood, letter_if, name_if};
+ghost use Rattle.i7_sentences.specs.RuleHeads.{behind_if, body_tokens, book_of, has_own_name, has_parts, has_scene, has_shape, has_subject, head_as, head_found, head_in, head_of, head_tokens, if_understood, is_one_phrase, is_there, is_understood, letter_if, name_if};
 
+use crate::class::is_body_mark;
 use crate::column_stack::ColumnStack;
 use crate::condition::is_condition;
 use crate::head_words::{condition_of, scene_of, subject_of};
-use crate::name::rest_of;
 use crate::reading::Reading;
 use crate::reserved::has_reserved_among;
 use crate::rule_form::{HeadBook, HeadForm, HeadParts, is_head_form, rule_reading};
@@ -30,8 +31,6 @@ pub struct Head {
     pub has_reserved_name: bool,
     /// Whether its mark is a comma, behind which one phrase stands with what belongs to it.
     pub takes_one: bool,
-    /// How many tokens stand behind it and its mark.
-    pub body_len: usize,
 }
 
 /// Whether a letter names the scene or the author's book.
@@ -108,17 +107,10 @@ fn name_if(
     ensures { IfOk result (λ name. name ≡ name_if is_named letter.now) }
 {
     if is_named {
-        Ok(Some(named_in(alloc, letter)?))
+        Ok(Some(words_in(alloc, letter)?))
     } else {
         Ok(None)
     }
-}
-
-/// How many tokens stand behind the mark with which the last letter begins.
-fn body_len(letter: &[Tagged<'_>]) -> usize
-    ensures { result ≡ body_len letter.now }
-{
-    rest_of(letter).len()
 }
 
 /// Whether the last letter begins with a comma.
@@ -154,7 +146,6 @@ fn head_of(
         name: name_if(alloc, head.is_named, letter_if(head.is_named, behind_told))?,
         has_reserved_name: is_reserved,
         takes_one: is_one_phrase(body),
-        body_len: body_len(body),
     })
 }
 
@@ -256,13 +247,29 @@ pub fn head_in(alloc: Global, tokens: &[Tagged<'_>]) -> Result<Option<Head>, All
     Ok(head_found(alloc, reading)?)
 }
 
-/// The tokens of a rule with this head: those in front of its body, and those of the body.
-pub fn parted_at_body<'a>(
-    head: &Head,
-    tokens: &'a [PackedToken],
-) -> (&'a [PackedToken], &'a [PackedToken])
-    ensures front { result.0.now ≡ head_tokens head.now tokens.now }
-    ensures body { result.1.now ≡ body_tokens head.now tokens.now }
+/// How many tokens stand in front of the first mark that ends a head.
+fn head_len(tokens: &[Tagged<'_>]) -> usize
+    ensures place { result ≡ position_or_len is_body_mark tokens.now }
+    ensures within { result ≤ length tokens.now }
 {
-    tokens.split_at(tokens.len().saturating_sub(head.body_len))
+    tokens
+        .iter()
+        .take_while(|token| !is_body_mark(token))
+        .count()
+}
+
+/// The tokens of a rule: those in front of the mark that ends its head, and those of its body, which stand behind it.
+pub fn parted_at_body<'a>(
+    tokens: &'a [PackedToken],
+    words: &[Tagged<'_>],
+) -> (&'a [PackedToken], &'a [PackedToken])
+    requires { words.now ≡ tokens.now }
+    ensures front { result.0.now ≡ head_tokens tokens.now }
+    ensures body { result.1.now ≡ body_tokens tokens.now }
+{
+    let (front, rest) = tokens.split_at(head_len(words));
+    match rest {
+        [] => (front, rest),
+        [_, body @ ..] => (front, body),
+    }
 }

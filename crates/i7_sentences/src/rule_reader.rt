@@ -2,7 +2,6 @@
 ghost use Rattle.std.specs.Prelude.{◌≡◌, IfOk};
 ghost use Rattle.i7_sentences.specs.Bodies.{phrases_of};
 ghost use Rattle.i7_sentences.specs.Lowest.{lowest};
-ghost use Rattle.i7_sentences.specs.RuleHeads.{head_in};
 ghost use Rattle.i7_sentences.specs.Rules.{body_heard, head_heard, head_reserved, rule_heard, unless_reserved, unless_unread};
 ghost use Rattle.i7_sentences.specs.Stretches.{bad_literal_in, rule_stretches};
 
@@ -76,19 +75,19 @@ fn body_heard(
     Ok(unless_unread(found.unread, unless_reserved(reserved, rule)))
 }
 
-/// What a rule with this head says.
-fn headed_part(alloc: Global, tokens: &[PackedToken], head: Head) -> Result<HeardPart, AllocError>
-    ensures heard { IfOk result (λ part. part.heard ≡ head_heard tokens.now (Some head)) }
-    ensures literals { IfOk result (λ part. part.bad_literal ≡ lowest bad_literal_in (rule_stretches tokens.now (Some head))) }
+/// What a rule says with this head, if it is understood, and a body of these phrases.
+fn head_heard(
+    alloc: Global,
+    line: u32,
+    head: Option<Head>,
+    phrases: &[PhraseLine<'_>],
+) -> Result<Heard, AllocError>
+    ensures { IfOk result (λ heard. heard ≡ head_heard line head (phrases_of phrases.now)) }
 {
-    let line = line_in(tokens);
-    let (front, body) = parted_at_body(&head, tokens);
-    let phrases = phrases_of(alloc, body)?;
-    let bad_literal = lower_of(bad_literal_in(line, front), bad_phrase(phrases.as_slice()));
-    Ok(HeardPart {
-        heard: body_heard(alloc, line, head, phrases.as_slice())?,
-        bad_literal,
-    })
+    match head {
+        None => Ok(Heard::Unread(line)),
+        Some(head) => Ok(body_heard(alloc, line, head, phrases)?),
+    }
 }
 
 /// What a sentence says that is a rule: C5 is told at the rule's line of its head and at a phrase's of a phrase, then
@@ -102,14 +101,14 @@ pub fn rule_part(
 ) -> Result<HeardPart, AllocError>
     requires { words.now ≡ tokens.now }
     ensures heard { IfOk result (λ part. part.heard ≡ rule_heard tokens.now) }
-    ensures literals { IfOk result (λ part. part.bad_literal ≡ lowest bad_literal_in (rule_stretches tokens.now (head_in tokens.now))) }
+    ensures literals { IfOk result (λ part. part.bad_literal ≡ lowest bad_literal_in (rule_stretches tokens.now)) }
 {
     let line = line_in(tokens);
-    match head_in(alloc, words)? {
-        None => Ok(HeardPart {
-            heard: Heard::Unread(line),
-            bad_literal: bad_literal_in(line, tokens),
-        }),
-        Some(head) => Ok(headed_part(alloc, tokens, head)?),
-    }
+    let (front, body) = parted_at_body(tokens, words);
+    let phrases = phrases_of(alloc, body)?;
+    let head = head_in(alloc, words)?;
+    Ok(HeardPart {
+        heard: head_heard(alloc, line, head, phrases.as_slice())?,
+        bad_literal: lower_of(bad_literal_in(line, front), bad_phrase(phrases.as_slice())),
+    })
 }

@@ -66,9 +66,9 @@ const DESCRIPTION: Piece = Word(Keyword::Description);
 
 const NUMBER: Piece = Word(Keyword::Number);
 
-/// The forms up to those of rules, the lowest first. Each is its variants: where several fit a sentence, that with the
-/// shortest letters is read, and of equally short ones the first.
-pub const LOWER_FORMS: [FormRow; 13] = [
+/// The forms up to that of what a scene begins or ends on, the lowest first. Each is its variants: where several fit a
+/// sentence, that with the shortest letters is read, and of equally short ones the first.
+pub const LOWER_FORMS: [FormRow; 14] = [
     (None, &[(Form::Description, &[TEXT])]),
     (
         Some(Keyword::Understand),
@@ -153,10 +153,6 @@ pub const LOWER_FORMS: [FormRow; 13] = [
             (Form::OwnRule, &[WORDS, RULE, HEAD, BODY]),
         ],
     ),
-];
-
-/// The forms behind those of rules that are tried before those that speak of kinds of value, the lowest first.
-pub const MIDDLE_FORMS: [FormRow; 5] = [
     (
         Some(Keyword::When),
         &[
@@ -164,6 +160,10 @@ pub const MIDDLE_FORMS: [FormRow; 5] = [
             (Form::SceneEnds, &[NAME, ENDS, WHEN, WORDS]),
         ],
     ),
+];
+
+/// The forms behind these that are tried before those that speak of kinds of value, the lowest first.
+pub const MIDDLE_FORMS: [FormRow; 4] = [
     (
         Some(Keyword::Listed),
         &[

@@ -6,6 +6,7 @@ ghost use Rattle.i7_sentences.specs.TextPieces.{is_fixed_in_place, is_switched, 
 
 use crate::WordList;
 use crate::brackets::is_gap;
+use crate::word::as_read;
 use std::alloc::{AllocError, Global};
 use world_meaning::{TextBytes, is_spelled};
 
@@ -37,17 +38,17 @@ fn first_run(bytes: &[u8]) -> Option<(&[u8], &[u8])>
     parted_at_gap(bytes)
 }
 
-/// Adds a word, if there is one.
+/// Adds a word as it is read, if there is one.
 fn add_run(alloc: Global, run: &[u8], all: &mut Vec<TextBytes>) -> Result<(), AllocError>
     ensures { OnOk result (all.new.items ≡ all.old.items ++ run_word run.now) }
 {
     if !run.is_empty() {
-        all.push(TextBytes::copied(alloc, run)?)?;
+        all.push(TextBytes::copied(alloc, as_read(run))?)?;
     }
     Ok(())
 }
 
-/// The words of these bytes, each by itself.
+/// The words of these bytes, each by itself, `are` read as `is`.
 pub fn runs_of(alloc: Global, bytes: &[u8]) -> Result<Vec<TextBytes>, AllocError>
     ensures { IfOk result (λ runs. runs.items ≡ runs_of bytes.now) }
 {

@@ -12,7 +12,7 @@ use Rattle.i7_kinds.specs.Actions.{actions_said}
 use Rattle.i7_lexer.specs.declared.token.Token.{Token}
 use Rattle.i7_sentences.specs.ActionDeclarations.{ActionAt, action_at, actions_declared, asked_of}
 use Rattle.i7_sentences.specs.Assertions.{assertion_of, described, described_object, door_between, number_in, describing_text, side_direction, side_of, way_assertion}
-use Rattle.i7_sentences.specs.Bodies.{body_lines}
+use Rattle.i7_sentences.specs.Bodies.{Phrase, body_lines}
 use Rattle.i7_sentences.specs.BodyOrder.{reserved_line}
 use Rattle.i7_sentences.specs.Conditions.{is_condition}
 use Rattle.i7_sentences.specs.Cuts.{Piece, line_in, parts_of}
@@ -22,7 +22,7 @@ use Rattle.i7_sentences.specs.KindsOfValue.{kinds_of_value}
 use Rattle.world_meaning.specs.Literals.{digits_of, is_negative, literal_of, magnitude}
 use Rattle.i7_sentences.specs.Lowest.{lower_of}
 use Rattle.i7_sentences.specs.Names.{Words, named_in, words_in}
-use Rattle.i7_sentences.specs.Read.{named_heard, plain_heard}
+use Rattle.i7_sentences.specs.HeardForms.{named_heard, plain_heard}
 use Rattle.i7_sentences.specs.Reserved.{has_reserved_among}
 use Rattle.i7_sentences.specs.RuleBodies.{body_phrases, unread_line}
 use Rattle.i7_sentences.specs.RuleHeads.{body_tokens, head_in, is_rule_form}
@@ -131,7 +131,7 @@ unless_ranged false found ranged = tt
 understood_ranged : (letters : List (List Token)) → IsWellFound (understands letters)
 understood_ranged (texts ∷ meaning ∷ []) =
     unless_ranged (are_choices texts) (understands_so (texts_in texts) meaning)
-    (asked_ranged (list_all is_grammar_text (texts_in texts)) (assertion.Understand (record { texts = texts_in texts; meaning = named_in meaning })) tt)
+    (asked_ranged (list_all is_grammar_text (texts_in texts)) (assertion.Understand (record { texts = texts_in texts; meaning = words_in meaning })) tt)
 understood_ranged [] = tt
 understood_ranged (texts ∷ []) = tt
 understood_ranged (texts ∷ meaning ∷ more ∷ rest) = tt
@@ -200,15 +200,14 @@ read_ranged : (line reserved : Option ℕ) (rule : Rule) → IsWellHeard (unless
 read_ranged None reserved rule = free_ranged reserved rule
 read_ranged (Some line) reserved rule = tt
 
-head_ranged : (tokens : List Token) (head : Option Head) → IsWellHeard (head_heard tokens head)
-head_ranged tokens None = tt
-head_ranged tokens (Some head) =
-    let phrases = body_lines (body_tokens head tokens) in
-    read_ranged (unread_line (line_in tokens) head.takes_one phrases) (lower_of (head_reserved (line_in tokens) head) (reserved_line phrases))
-    (record { book = head.book; subject = head.subject; scene = head.scene; condition = head.condition; name = head.name; body = body_phrases (line_in tokens) phrases })
+head_ranged : (line : ℕ) (head : Option Head) (phrases : List Phrase) → IsWellHeard (head_heard line head phrases)
+head_ranged line None phrases = tt
+head_ranged line (Some head) phrases =
+    read_ranged (unread_line line head.takes_one phrases) (lower_of (head_reserved line head) (reserved_line phrases))
+    (record { book = head.book; subject = head.subject; scene = head.scene; condition = head.condition; name = head.name; body = body_phrases line phrases })
 
 form_heard : (kinds : List Words) (tokens : List Token) (variant : Variant) (letters : List (List Token)) (is_rule : Bool) → IsWellHeard (if is_rule then rule_heard tokens else plain_heard (line_in tokens) (has_reserved_among variant.pieces letters) (assertion_of kinds variant.form letters))
-form_heard kinds tokens variant letters true = head_ranged tokens (head_in tokens)
+form_heard kinds tokens variant letters true = head_ranged (line_in tokens) (head_in tokens) (body_lines (body_tokens tokens))
 form_heard kinds tokens variant letters false = plain_ranged (line_in tokens) (has_reserved_among variant.pieces letters) (assertion_of kinds variant.form letters) (form_ranged kinds variant.form letters)
 
 words_ranged : (kinds : List Words) (tokens : List Token) (said : Assertion) → SaysInWords kinds tokens (heard.Says said) → IsWellSaid said
