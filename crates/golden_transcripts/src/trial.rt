@@ -164,7 +164,8 @@ fn add_command(commands: &mut Vec<u8>, exchange: &Exchange<'_>) -> Result<(), Al
         return Ok(());
     };
     commands.extend_from_slice(command)?;
-    commands.push(b'\n')
+    commands.push(b'\n')?;
+    Ok(())
 }
 
 /// The commands of these exchanges, a line each.
