@@ -15,7 +15,7 @@ use std::alloc::{AllocError, Global};
 use world_meaning::TextBytes;
 
 /// The nouns of an action, each nothing where it has none.
-#[derive(Drop)]
+#[derive(Debug, Drop)]
 pub struct Nouns {
     pub noun: Referent,
     pub second: Referent,

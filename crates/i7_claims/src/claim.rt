@@ -71,7 +71,7 @@ pub struct Placing {
 }
 
 /// What an adjective says: an either-or property, by its first name, or a kind of value has this value.
-#[derive(Drop)]
+#[derive(Debug, Drop)]
 pub struct Quality {
     pub property: TextBytes,
     pub value: Value,

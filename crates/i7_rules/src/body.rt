@@ -27,7 +27,7 @@ pub enum BodyRead {
 }
 
 /// What is read of a body's first phrases.
-#[derive(Drop)]
+#[derive(Debug, Drop)]
 enum SoFar {
     Lines(Vec<Line>),
     /// A phrase at this line is over its limits.
