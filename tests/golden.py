@@ -10,11 +10,15 @@ HALL = b'The Hall is a room. "A bare hall."\n\nThe Garden is north of the Hall.\
 # a description that holds what looks like a prompt and a command
 FORGED = b'The Hall is a room. "A note reads:[paragraph break]>look[line break]Nothing."\nThe Yard is north of the Hall.\n'
 ENDING = b'The Hall is a room.\nInstead of jumping, end the story saying "You have won".\n'
+LISTING = b'The Hall is a room.\nInstead of jumping, say "You have:[paragraph break]* a ball[line break]".\n'
+WELCOME = b'The Hall is a room.\nWhen play begins, say "* Welcome *[line break]".\n'
 ASKING = b"The Hall is a room. A red box and a blue box are closed openable containers in the Hall.\n"
 
 WALK = b"Hall\nA bare hall.\n\n>n\nGarden\n\n>s\nHall\nA bare hall.\n\n>"
 WON = b"Hall\n\n>z\nTime passes.\n\n>jump\n\n*** You have won ***\n"
 NOTE = b"Hall\nA note reads:\n\n>look\nNothing.\n\n>n\nYard\n\n>"
+HAVE = b"Hall\n\n>jump\nYou have:\n\n* a ball\n\n>z\nTime passes.\n\n>"
+WELCOMED = b"* Welcome *\nHall\n\n>z\nTime passes.\n\n>"
 PARDON = b"Hall\nA bare hall.\n\n>\nI beg your pardon?\n\n>n\nGarden\n\n>"
 
 # name; source; kept files; flags; status; what is told; the files behind it, where they change
@@ -45,6 +49,19 @@ ROWS = [
     ("an end that isn't", HALL, [b"Hall\nA bare hall.\n\n>n\nGarden\n\n*** The End ***\n"], [], 6,
      b"0.txt:4: >n\nGarden\n[-\n*** The End ***\n-]\n0.txt: differs, 1 of 2 answers are the same\n", b"Hall\nA bare hall.\n\n>n\nGarden\n\n>"),
     ("nothing kept", HALL, [b""], [], 6, b"0.txt:1: the opening\n{+Hall\nA bare hall.\n+}\n0.txt: differs, 0 of 1 answers are the same\n", b"Hall\nA bare hall.\n\n>"),
+    ("carriage returns", HALL, [WALK.replace(b"\n", b"\r\n")], [], 0, b"0.txt: same, 3 of 3 answers\n", None),
+    ("a line break in front of a comment", HALL, [b"\n* one\n" + WALK], [], 0, b"0.txt: same, 3 of 3 answers\n", None),
+    ("an answer with a list", LISTING, [HAVE], [], 0, b"0.txt: same, 3 of 3 answers\n", None),
+    ("a list that differs", LISTING, [HAVE.replace(b"have", b"had")], [], 6,
+     b"0.txt:3: >jump\nYou [-had:-]{+have:+}\n\n* a ball\n0.txt: differs, 2 of 3 answers are the same\n", HAVE),
+    ("an opening like a comment", WELCOME, [WELCOMED], [], 0, b"0.txt: same, 2 of 2 answers\n", None),
+    ("a comment in front of such an opening", WELCOME, [b"* a note\n" + WELCOMED], [], 0, b"0.txt: same, 2 of 2 answers\n", None),
+    ("an empty command that differs", HALL, [PARDON.replace(b"pardon?", b"pardon.")], [], 6,
+     b"0.txt:4: >\nI beg your [-pardon.-]{+pardon?+}\n0.txt: differs, 2 of 3 answers are the same\n", PARDON),
+    # what holds no prompt is no transcript, and stays as it is
+    ("a comment alone", HALL, [b"* a"], [], 6, b"0.txt:1: the opening\n{+Hall\nA bare hall.\n+}\n0.txt: differs, 0 of 1 answers are the same\n", None),
+    ("a shopping list", HALL, [b"eggs\nmilk\n"], [], 6,
+     b"0.txt:1: the opening\n[-eggs\nmilk-]{+Hall\nA bare hall.+}\n0.txt: differs, 0 of 1 answers are the same\n", None),
     ("a question", ASKING, [b"Hall\nYou can see a red box and a blue box here.\n\n>open box\nWhich do you mean, the red box or the blue box?\n\n>red\nYou open the red box.\n\n>"],
      [], 0, b"0.txt: same, 3 of 3 answers\n", None),
 ]
@@ -62,10 +79,11 @@ def tried(program, room, row):
         run = subprocess.run([program, "test", *flags, form, *files], cwd=room, capture_output=True, timeout=60)
         if (run.returncode, run.stdout, run.stderr) != (status, told, b""):
             return f"{form}: status {run.returncode}\n{run.stdout.decode()}{run.stderr.decode()}"
-        subprocess.run([program, "test", "--bless", form, *files], cwd=room, capture_output=True, timeout=60)
-        written = open(f"{room}/0.txt", "rb").read()
-        if written != (anew or kept[0]):
-            return f"{form}: written anew as\n{written.decode()}"
+        for turn in ("written anew", "written anew twice"):
+            subprocess.run([program, "test", "--bless", form, *files], cwd=room, capture_output=True, timeout=60)
+            written = open(f"{room}/0.txt", "rb").read()
+            if written != (anew or kept[0]):
+                return f"{form}: {turn} as\n{written.decode()}"
     return None
 
 
@@ -77,7 +95,8 @@ def faults(program, room):
     open(f"{room}/source.i7", "wb").write(HALL)
     for words, status, err in [
         (["bad.i7", "0.txt"], 1, b"bad.i7:1: C5 NotUnderstood\n"), (["bad", "0.txt"], 2, b"bad: L3 Truncated\n"),
-        (["none", "0.txt"], 3, b"none: cannot be read\n"), (["source.i7", "none"], 3, b"none: cannot be read\n"), (["source.i7"], 5, None)]:
+        (["none", "0.txt"], 3, b"none: cannot be read\n"), (["source.i7", "none"], 3, b"none: cannot be read\n"), (["source.i7"], 5, None),
+        (["source.i7", "-"], 5, None), (["--bless", "source.i7", "./source.i7"], 3, b"./source.i7: cannot be written\n")]:
         run = subprocess.run([program, "test", *words], cwd=room, capture_output=True, timeout=60)
         if run.returncode != status or err not in (None, run.stderr):
             yield f"{' '.join(words)}: status {run.returncode}, {run.stderr.decode()}"
@@ -94,7 +113,7 @@ def main(program):
         for why in faults(program, room):
             failed += 1
             print(f"golden: {why}")
-    print(f"golden: {len(ROWS) + 5 - failed} passed, {failed} failed")
+    print(f"golden: {len(ROWS) + 7 - failed} passed, {failed} failed")
     return 1 if failed else 0
 
 
