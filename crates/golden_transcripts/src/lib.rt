@@ -3,9 +3,11 @@
 #![tactic(auto)]
 
 mod exchange;
+mod fault;
 mod kept;
 mod trial;
 
 pub use exchange::Exchange;
+pub use fault::TrialFault;
 pub use kept::Kept;
 pub use trial::{Trial, transcript_of, tried};

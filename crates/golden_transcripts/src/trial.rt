@@ -2,19 +2,16 @@
 ghost use Rattle.std.specs.Prelude.{◌≡◌, ◌<◌, ◌++◌, IfErr, IfOk, OnOk, bytes_eq, flat_map, length};
 ghost use Rattle.std.specs.Option.{ForSome};
 ghost use Rattle.golden_transcripts.specs.Commands.{line_of};
-ghost use Rattle.golden_transcripts.specs.Transcripts.{IsBehind, IsTranscript, IsUntried};
+ghost use Rattle.golden_transcripts.specs.Transcripts.{Begins, IsBehind, IsTranscript, IsUntried};
 
 use crate::exchange::Exchange;
+use crate::fault::TrialFault;
 use crate::kept::Kept;
-use source_player::{SourceRunFault, run_story};
 use standard_rules::HostTable;
 use std::alloc::{AllocError, Global};
 use story_format::load;
-use story_player::{RunFault, Session, StartFault, Watched};
+use story_player::{RunFault, Session, Watched, run};
 use world_meaning::TextBytes;
-
-/// Memory was refused.
-const OUT_OF_MEMORY: SourceRunFault = SourceRunFault::Start(StartFault::Memory);
 
 /// What became of a kept transcript.
 #[derive(Drop)]
@@ -36,19 +33,20 @@ pub struct Trial<'a> {
 }
 
 /// A session at the beginning of a story, by the standard rules.
-fn session_of(alloc: Global, story: &[u8]) -> Result<Session, SourceRunFault>
-    ensures { IfErr result (λ fault. IsUntried story.now fault) }
+fn session_of(alloc: Global, story: &[u8]) -> Result<Session, TrialFault>
+    ensures begins { IfOk result (λ session. Begins story.now session) }
+    ensures left { IfErr result (λ fault. IsUntried story.now fault) }
 {
     let story = match load(alloc, story) {
         Ok(story) => story,
-        Err(fault) => return Err(SourceRunFault::Story(fault)),
+        Err(fault) => return Err(TrialFault::Story(fault)),
     };
     let Ok(hosts) = HostTable::standard(alloc) else {
-        return Err(OUT_OF_MEMORY);
+        return Err(TrialFault::Memory);
     };
     match Session::start(alloc, story, hosts) {
         Ok(session) => Ok(session),
-        Err(_) => Err(OUT_OF_MEMORY),
+        Err(_) => Err(TrialFault::Memory),
     }
 }
 
@@ -57,26 +55,17 @@ fn session_of(alloc: Global, story: &[u8]) -> Result<Session, SourceRunFault>
 /// # Errors
 ///
 /// The story's fault, want of memory, or that there are too many commands.
-pub fn transcript_of(
-    alloc: Global,
-    story: &[u8],
-    commands: &[u8],
-) -> Result<TextBytes, SourceRunFault>
+pub fn transcript_of(alloc: Global, story: &[u8], commands: &[u8]) -> Result<TextBytes, TrialFault>
     ensures played { IfOk result (λ transcript. IsTranscript story.now commands.now transcript) }
     ensures left { IfErr result (λ fault. IsUntried story.now fault) }
 {
-    let Ok(hosts) = HostTable::standard(alloc) else {
-        return Err(OUT_OF_MEMORY);
-    };
+    let mut session = session_of(alloc, story)?;
     let mut reader = Watched::new(commands);
     let mut writer = Watched::new(Vec::new(alloc));
-    match run_story(alloc, story, hosts, &mut reader, &mut writer, true) {
+    match run(&mut reader, &mut writer, &mut session, true) {
         Ok(_) => Ok(TextBytes::new(writer.into_inner())),
-        Err(SourceRunFault::Story(fault)) => Err(SourceRunFault::Story(fault)),
-        Err(SourceRunFault::Run(RunFault::InputTooLong)) => Err(SourceRunFault::Run(
-            RunFault::InputTooLong,
-        )),
-        Err(_) => Err(OUT_OF_MEMORY),
+        Err(RunFault::InputTooLong) => Err(TrialFault::InputTooLong),
+        Err(_) => Err(TrialFault::Memory),
     }
 }
 
@@ -184,11 +173,7 @@ fn commands_of(alloc: Global, exchanges: &[Exchange<'_>]) -> Result<Vec<u8>, All
 /// # Errors
 ///
 /// The story's fault, want of memory, or that there are too many commands.
-pub fn tried<'a>(
-    alloc: Global,
-    story: &[u8],
-    file: &mut Kept<'a>,
-) -> Result<Trial<'a>, SourceRunFault>
+pub fn tried<'a>(alloc: Global, story: &[u8], file: &mut Kept<'a>) -> Result<Trial<'a>, TrialFault>
     // What was found is a part of the file, and nothing of the file is lost.
     ensures parts { IfOk result (λ trial. file.old.rest.now ≡ trial.comments.now ++ (trial.kept.now ++ (trial.breaks.now ++ file.new.rest.now))) }
     ensures commands { IfOk result (λ trial. trial.commands ≡ flat_map line_of trial.exchanges.items) }
@@ -202,13 +187,13 @@ pub fn tried<'a>(
     let comments = file.take_comments(session.opening(), session.ending().is_some());
     let begun = file.rest;
     let Ok(exchanges) = exchanges_in(alloc, session, file) else {
-        return Err(OUT_OF_MEMORY);
+        return Err(TrialFault::Memory);
     };
     file.take_left();
     let kept = begun.split_at(begun.len() - file.rest.len()).0;
     let breaks = file.take_breaks();
     let Ok(commands) = commands_of(alloc, exchanges.as_slice()) else {
-        return Err(OUT_OF_MEMORY);
+        return Err(TrialFault::Memory);
     };
     let transcript = transcript_of(alloc, story, commands.as_slice())?;
     let same = transcript.as_slice() == kept;

@@ -78,7 +78,7 @@ fn commands<'a, R: Read + Drop>(
 
 /// The program's fault for a fault of playing the file of this path. All stored rules are there, so that only want of memory
 /// keeps a session from beginning.
-pub fn playing_fault<'a>(path: &'a str, fault: SourceRunFault) -> ProgramFault<'a> {
+fn playing_fault<'a>(path: &'a str, fault: SourceRunFault) -> ProgramFault<'a> {
     match fault {
         SourceRunFault::Source(fault) => ProgramFault::Source(path, fault),
         SourceRunFault::Story(fault) => ProgramFault::Story(path, fault),

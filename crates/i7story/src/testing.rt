@@ -1,9 +1,9 @@
 //! Trying kept transcripts: what a story says now is compared with them.
 use crate::command::faulty;
-use crate::deeds::{INPUT, bytes_of, playing_fault};
+use crate::deeds::{INPUT, bytes_of};
 use crate::difference::write_difference;
 use crate::saving::{is_same_file, save};
-use golden_transcripts::{Exchange, Kept, Trial, tried};
+use golden_transcripts::{Exchange, Kept, Trial, TrialFault, tried};
 use source_player::ProgramFault;
 use std::alloc::{AllocError, Global};
 use std::io::{self, Write};
@@ -47,6 +47,15 @@ struct Tally {
     verdict: Verdict,
     /// Whether a prompt was found in each, so that they are transcripts at all.
     prompted: bool,
+}
+
+/// The program's fault where the story of this path isn't tried.
+fn trial_fault<'a>(path: &'a str, fault: TrialFault) -> ProgramFault<'a> {
+    match fault {
+        TrialFault::Story(fault) => ProgramFault::Story(path, fault),
+        TrialFault::Memory => ProgramFault::Memory,
+        TrialFault::InputTooLong => ProgramFault::Stream(RunFault::InputTooLong),
+    }
 }
 
 /// What is told can't be written.
@@ -164,7 +173,7 @@ fn try_each<'a>(
     let mut out = rt.stdout();
     for _ in 0..=kept.len() {
         let trial = tried(rt.alloc(), story.bytes.as_slice(), &mut file).map_err(
-            |fault| playing_fault(story.path, fault),
+            |fault| trial_fault(story.path, fault),
         )?;
         show_trial(&mut out, path, &trial, how.all, &mut tally).map_err(|_| unwritten())?;
         write_anew(&mut anew, &trial).map_err(|_| ProgramFault::Memory)?;
