@@ -3,3 +3,4 @@ pub mod FaultTexts
 pub mod HostTables
 pub mod Hosts
 pub mod PropertyNames
+pub mod StoredRules
