@@ -26,28 +26,63 @@ pub trait Field: Sized + Drop {
     ghost lawful: { IsFormat format };
 }
 
+/// Two values, one behind the other.
+impl<A: Field, B: Field> Field for (A, B) {
+    ghost use Rattle.story_format.specs.Formats.{pair};
+    ghost use Rattle.story_format.specs.FormatLaws.{pair_lawful};
+
+    ghost format = { pair A.format B.format };
+
+    fn read(alloc: Global, bytes: &[u8]) -> Result<Option<((A, B), &[u8])>, AllocError> {
+        let Some((first, rest)) = A::read(alloc, bytes)? else {
+            return Ok(None);
+        };
+        let Some((second, rest)) = B::read(alloc, rest)? else {
+            return Ok(None);
+        };
+        Ok(Some(((first, second), rest)))
+    }
+
+    fn skip(bytes: &[u8]) -> Option<&[u8]> {
+        let rest = A::skip(bytes)?;
+        B::skip(rest)
+    }
+
+    fn write(&self, out: &mut Vec<u8>) -> Result<(), AllocError> {
+        self.0.write(out)?;
+        self.1.write(out)
+    }
+
+    ghost lawful = { pair_lawful A.format B.format A.lawful B.lawful };
+}
+
+/// The type of values, one behind the other: each is paired with all behind it, so that what is read is let go of as one.
+macro_rules! nested {
+    ($kind:ty) => { $kind };
+    ($kind:ty, $($more:ty),+) => { ($kind, $crate::field::nested!($($more),+)) };
+}
+
+/// The names of values, one behind the other.
+macro_rules! parted {
+    ($field:ident) => { $field };
+    ($field:ident, $($more:ident),+) => { ($field, $crate::field::parted!($($more),+)) };
+}
+
 /// Reads a struct's fields in order.
 macro_rules! read_fields {
-    ($made:ident, $alloc:ident, $bytes:ident, $($field:ident: $kind:ty),+) => {{
-        let rest = $bytes;
-        $(
-            let Some(($field, rest)) = <$kind as Field>::read($alloc, rest)? else {
-                return Ok(None);
-            };
-        )+
-        Ok(Some(($made { $($field),+ }, rest)))
-    }};
+    ($made:ident, $alloc:ident, $bytes:ident, $($field:ident: $kind:ty),+) => {
+        match <$crate::field::nested!($($kind),+) as Field>::read($alloc, $bytes)? {
+            Some(($crate::field::parted!($($field),+), rest)) => Ok(Some(($made { $($field),+ }, rest))),
+            None => Ok(None),
+        }
+    };
 }
 
 /// Skips a struct's fields in order.
 macro_rules! skip_fields {
-    ($bytes:ident, $($kind:ty),+) => {{
-        let rest = $bytes;
-        $(
-            let rest = <$kind as Field>::skip(rest)?;
-        )+
-        Some(rest)
-    }};
+    ($bytes:ident, $($kind:ty),+) => {
+        <$crate::field::nested!($($kind),+) as Field>::skip($bytes)
+    };
 }
 
 /// Writes a struct's fields in order.
@@ -58,6 +93,8 @@ macro_rules! write_fields {
     }};
 }
 
+pub(crate) use nested;
+pub(crate) use parted;
 pub(crate) use read_fields;
 pub(crate) use skip_fields;
 pub(crate) use write_fields;

@@ -1,11 +1,11 @@
 //! The tables of a story file, each entry with its fields in the order of their bytes.
 ghost use Rattle.std.specs.Prelude.{◌≡◌};
 
-use crate::field::{Field, read_fields, skip_fields, write_fields};
+use crate::field::{Field, parted, read_fields, skip_fields, write_fields};
 use crate::rule_tables::RuleTables;
 use crate::table::Table;
 use crate::value_tables::{
-    FIRST_VERSION, SECOND_VERSION, ValueTables, read_values, skip_values, write_values,
+    FIRST_VERSION, SECOND_VERSION, ValueTables, read_with_values, skip_values, write_values,
 };
 use crate::world_tables::WorldTables;
 use std::alloc::{AllocError, Global};
@@ -86,6 +86,15 @@ pub struct Tables {
     pub values: ValueTables,
 }
 
+/// Tables 1 to 13.
+type FirstTables = (
+    Table<TextBytes>,
+    (
+        WorldTables,
+        (Table<Entry>, (Table<Exits>, (RuleTables, Table<TextBytes>))),
+    ),
+);
+
 impl Tables {
     ghost use Rattle.std.specs.Prelude.{◌++◌, IfOk, OnOk, IsTrue};
     ghost use Rattle.story_format.specs.Formats.{left, seen};
@@ -100,37 +109,21 @@ impl Tables {
     ) -> Result<Option<(Tables, &[u8])>, AllocError>
         ensures { IfOk result (λ found. seen found ≡ (tables_layout version).format.get bytes.now) }
     {
-        let Some((strings, rest)) = Table::read(alloc, bytes)? else {
-            return Ok(None);
-        };
-        let Some((world, rest)) = WorldTables::read(alloc, rest)? else {
-            return Ok(None);
-        };
-        let Some((objects, rest)) = Table::read(alloc, rest)? else {
-            return Ok(None);
-        };
-        let Some((ways, rest)) = Table::read(alloc, rest)? else {
-            return Ok(None);
-        };
-        let Some((rules, rest)) = RuleTables::read(alloc, rest)? else {
-            return Ok(None);
-        };
-        let Some((codes, rest)) = Table::read(alloc, rest)? else {
-            return Ok(None);
-        };
-        let Some((values, rest)) = read_values(alloc, version, rest)? else {
-            return Ok(None);
-        };
-        let tables = Tables {
-            strings,
-            world,
-            objects,
-            ways,
-            rules,
-            codes,
-            values,
-        };
-        Ok(Some((tables, rest)))
+        match read_with_values::<FirstTables>(alloc, version, bytes)? {
+            Some(((parted!(strings, world, objects, ways, rules, codes), values), rest)) => {
+                let tables = Tables {
+                    strings,
+                    world,
+                    objects,
+                    ways,
+                    rules,
+                    codes,
+                    values,
+                };
+                Ok(Some((tables, rest)))
+            }
+            None => Ok(None),
+        }
     }
 
     /// The bytes behind the tables of a version at the front, or `None` if they are cut. It takes no memory.
@@ -138,8 +131,7 @@ impl Tables {
     pub fn skip(version: u16, bytes: &[u8]) -> Option<&[u8]>
         ensures { left result ≡ (tables_layout version).format.skip bytes.now }
     {
-        let rest =
-            skip_fields!(bytes, Table<TextBytes>, WorldTables, Table<Entry>, Table<Exits>, RuleTables, Table<TextBytes>)?;
+        let rest = FirstTables::skip(bytes)?;
         skip_values(version, rest)
     }
 

@@ -1,6 +1,6 @@
 //! Tables 14 and 15: kinds of value, and the values of objects. A file of version 1 has neither.
 ghost use Rattle.std.specs.Prelude.{◌≡◌, ◌++◌, IfOk, OnOk, IsTrue};
-ghost use Rattle.story_format.specs.Formats.{left, seen};
+ghost use Rattle.story_format.specs.Formats.{left, pair, seen};
 ghost use Rattle.story_format.specs.Layout.{no_values, values_layout};
 
 use crate::field::{Field, read_fields, skip_fields, write_fields};
@@ -86,7 +86,7 @@ pub fn no_values(alloc: Global) -> ValueTables
 
 /// Tables 14 and 15 from the front of the bytes, as a version has them, and the bytes behind them.
 #[tactic(auto, unfolding(crate::specs::Layout::no_tables_layout))]
-pub fn read_values(
+fn read_values(
     alloc: Global,
     version: u16,
     bytes: &[u8],
@@ -97,6 +97,23 @@ pub fn read_values(
         return Ok(Some((no_values(alloc), bytes)));
     }
     ValueTables::read(alloc, bytes)
+}
+
+/// What a version has in front of tables 14 and 15, and these, from the front of the bytes, and the bytes behind them.
+pub fn read_with_values<A: Field>(
+    alloc: Global,
+    version: u16,
+    bytes: &[u8],
+) -> Result<Option<((A, ValueTables), &[u8])>, AllocError>
+    ensures { IfOk result (λ found. seen found ≡ (pair A.format (values_layout version).format).get bytes.now) }
+{
+    let Some((first, rest)) = A::read(alloc, bytes)? else {
+        return Ok(None);
+    };
+    let Some((values, rest)) = read_values(alloc, version, rest)? else {
+        return Ok(None);
+    };
+    Ok(Some(((first, values), rest)))
 }
 
 /// The bytes behind tables 14 and 15, or `None` if they are cut.
