@@ -1,6 +1,7 @@
 #!/usr/bin/env python3
-"""The gate: each wrong body can be applied; `rt ci` proves everything from nothing, and passes the tests and the programs; over what it
-left each wrong body is refused; and each script of tests/ passes over the built program. It ends with what that took, by crate and sort.
+"""The gate: each wrong body can be applied; `rt ci` proves everything from nothing, refuses the edits of crates/*/must-fail, and passes the
+tests and the programs; over what it left the wrong bodies that are tried a function at a time are refused; and each script of tests/ passes
+over the built program. It ends with what that took, by crate and sort.
 
 Use: tests/gate.py"""
 import collections
@@ -102,6 +103,7 @@ def main():
     edits = wrong_bodies.all_edits()
     if not all([it.stands() for it in edits]):
         sys.exit(wrong_bodies.main(["--stand"]))
+    edits = wrong_bodies.to_be_tried(edits)
     watch = Watch()
     well, passed = proved()
     seconds, of_proofs = watch.end(), used_so_far()

@@ -1,7 +1,8 @@
 #!/usr/bin/env python3
 """Tries the wrong bodies: of each the prover must refuse the function that it names.
 
-Use: tests/wrong_bodies.py [CRATE | CRATE/NAME ..]   those of all crates, of some, or some alone
+Use: tests/wrong_bodies.py [CRATE | CRATE/NAME ..]   those of all crates, of some, or some alone; without words, not those of the crates
+                                                     that tests/wrong_bodies/untried names, whose edits haven't been tried so yet
      tests/wrong_bodies.py --stand                   only sees that each can still be applied
 
 A wrong body is a file tests/wrong_bodies/CRATE/NAME.edit: a line `proof: ` with the function whose proof must fail, as a check prints
@@ -206,6 +207,15 @@ def all_edits():
     return [Edit(path) for path in sorted(here.glob("wrong_bodies/*/*.edit"))]
 
 
+def to_be_tried(edits):
+    """The edits but for those of crates that haven't been tried a function at a time yet, which it tells."""
+    untried = (here / "wrong_bodies" / "untried").read_text().split()
+    left = [it for it in edits if it.crate in untried]
+    if left:
+        print(f"{len(left)} wrong bodies are only seen to apply, those of {' '.join(untried)}", flush=True)
+    return [it for it in edits if it.crate not in untried]
+
+
 def try_all(edits):
     """The edits that weren't refused, and the processor seconds of each crate; both are told as they are found."""
     by_crate, wrong, seconds = collections.defaultdict(list), {}, {}
@@ -233,7 +243,8 @@ def main(words):
     if words == ["--stand"]:
         print(f"{len(edits) - len(fallen)} passed, {len(fallen)} failed")
         return 1 if fallen else 0
-    chosen = [it for it in edits if it not in fallen and (not words or it.crate in words or it.name in words)]
+    named = [it for it in edits if it.crate in words or it.name in words] if words else to_be_tried(edits)
+    chosen = [it for it in named if it not in fallen]
     wrong, seconds = try_all(chosen)
     print(f"{sum(seconds.values()) / 60:.1f} processor minutes")
     print(f"{len(chosen) - len(wrong)} passed, {len(wrong) + len(fallen)} failed")
