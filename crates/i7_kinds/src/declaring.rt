@@ -104,8 +104,9 @@ fn flags_by(
     ensures { IfOk result (λ flags. flags.items ≡ flags_by claims.now) }
 {
     let names = names_as(alloc, Sort::EitherOr, claims)?;
-    let flags = flags_from(alloc, kinds, givens, 0, &PROPERTIES, names.as_slice())?;
-    Ok(flags)
+    let flags = flags_from(alloc, kinds, givens, 0, &PROPERTIES, names.as_slice());
+    drop(names);
+    Ok(flags?)
 }
 
 /// The number properties, where the kinds are these and there are so many either-or properties.
@@ -149,6 +150,30 @@ fn value_kinds_by(
     Ok(values)
 }
 
+/// The numbers at which the variables start.
+fn variables_by(alloc: Global, claims: &[Claim]) -> Result<Vec<i32>, AllocError>
+    ensures { IfOk result (λ starts. starts.items ≡ (declared_by claims.now).variables) }
+{
+    let names = names_as(alloc, Sort::Variable, claims)?;
+    starts_of(alloc, claims, names.as_slice())
+}
+
+/// Whether each scene is recurring.
+fn scenes_by(alloc: Global, claims: &[Claim]) -> Result<Vec<bool>, AllocError>
+    ensures { IfOk result (λ scenes. scenes.items ≡ (declared_by claims.now).scenes) }
+{
+    let names = names_as(alloc, Sort::Scene, claims)?;
+    scenes_of(alloc, claims, names.as_slice())
+}
+
+/// How many rulebooks there are.
+fn rulebooks_by(alloc: Global, claims: &[Claim]) -> Result<usize, AllocError>
+    ensures { IfOk result (λ count. count ≡ (declared_by claims.now).rulebooks) }
+{
+    let names = names_as(alloc, Sort::Rulebook, claims)?;
+    Ok(names.len())
+}
+
 /// What a source declares besides objects, where its kinds have these names; nothing is claimed of its actions.
 pub fn declared_by(alloc: Global, names: &Strings, claims: &[Claim]) -> Result<Declared, AllocError>
     requires named { names.now ≡ kind_names claims.now }
@@ -166,18 +191,16 @@ pub fn declared_by(alloc: Global, names: &Strings, claims: &[Claim]) -> Result<D
     let numbers = numbers_by(alloc, kinds.as_slice(), givens.as_slice(), first, claims)?;
     let behind = first + numbers.len();
     let values = value_kinds_by(alloc, kinds.as_slice(), givens.as_slice(), behind, claims)?;
-    let variables = names_as(alloc, Sort::Variable, claims)?;
-    let starts = starts_of(alloc, claims, variables.as_slice())?;
-    let scenes = names_as(alloc, Sort::Scene, claims)?;
-    let recurring = scenes_of(alloc, claims, scenes.as_slice())?;
-    let rulebooks = names_as(alloc, Sort::Rulebook, claims)?;
+    let variables = variables_by(alloc, claims)?;
+    let scenes = scenes_by(alloc, claims)?;
+    let rulebooks = rulebooks_by(alloc, claims)?;
     Ok(Declared {
         kinds: Listed::new(kinds),
         flags: Listed::new(flags),
         numbers: Listed::new(numbers),
-        variables: Listed::new(starts),
-        scenes: Listed::new(recurring),
-        rulebooks: rulebooks.len(),
+        variables: Listed::new(variables),
+        scenes: Listed::new(scenes),
+        rulebooks,
         actions: Listed::new(Vec::new(alloc)),
         values: Listed::new(values),
     })

@@ -49,8 +49,9 @@ fn known_by(
     ensures { IfOk result (λ names. known_of names ≡ known_by objects.now claims.now) }
 {
     let numbering = numbering_of(alloc, objects, claims)?;
-    let names = known_in(alloc, &numbering, built_in, claims)?;
-    Ok(names)
+    let names = known_in(alloc, &numbering, built_in, claims);
+    drop(numbering);
+    Ok(names?)
 }
 
 /// The names of the author's rulebooks.

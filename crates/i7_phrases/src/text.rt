@@ -51,8 +51,13 @@ fn read_on(
     requires few { length (scope_of scope.now).repeats ≤ 255 }
     ensures { IfOk result (λ next. IsReadOn (scope_of scope.now) piece.now (draft_of draft) (next_of next)) }
 {
-    let sense = sense_of(alloc, scope, piece)?;
-    after(alloc, draft, sense)
+    match sense_of(alloc, scope, piece) {
+        Ok(sense) => after(alloc, draft, sense),
+        Err(refused) => {
+            drop(draft);
+            Err(refused)
+        }
+    }
 }
 
 /// The text that pieces mean; one with an object, a description, a number or a condition beyond the limits is too many.
