@@ -130,16 +130,16 @@ fn answered<'a>(
 /// story gives, too.
 fn exchanges_in<'a>(
     alloc: Global,
-    mut session: Session,
+    session: &mut Session,
     file: &mut Kept<'a>,
 ) -> Result<Vec<Exchange<'a>>, AllocError>
     ensures { OnOk result (IsBehind file.old.rest.now file.new.rest.now) }
 {
     let mut exchanges = Vec::new(alloc);
-    let opening = opening_in(alloc, &session, file)?;
+    let opening = opening_in(alloc, session, file)?;
     exchanges.push(opening)?;
-    while let Some((line, command)) = next_command(&session, file) {
-        let exchange = answered(alloc, &mut session, file, line, command)?;
+    while let Some((line, command)) = next_command(session, file) {
+        let exchange = answered(alloc, session, file, line, command)?;
         exchanges.push(exchange)?;
     }
     Ok(exchanges)
@@ -183,10 +183,10 @@ pub fn tried<'a>(alloc: Global, story: &[u8], file: &mut Kept<'a>) -> Result<Tri
     ensures same { IfOk result (λ trial. trial.same ≡ bytes_eq trial.transcript trial.kept.now) }
     ensures left { IfErr result (λ fault. IsUntried story.now fault) }
 {
-    let session = session_of(alloc, story)?;
+    let mut session = session_of(alloc, story)?;
     let comments = file.take_comments(session.opening(), session.ending().is_some());
     let begun = file.rest;
-    let Ok(exchanges) = exchanges_in(alloc, session, file) else {
+    let Ok(exchanges) = exchanges_in(alloc, &mut session, file) else {
         return Err(TrialFault::Memory);
     };
     file.take_left();
