@@ -1,7 +1,7 @@
 #!/usr/bin/env python3
-"""The gate: each wrong body can be applied; `rt ci` proves everything from nothing, refuses the edits of crates/*/must-fail, and passes the
-tests and the programs; over what it left the wrong bodies that are tried a function at a time are refused; and each script of tests/ passes
-over the built program. It ends with what that took, by crate and sort.
+"""The gate: each wrong body can be applied; `rt ci` proves everything from nothing, and passes the tests and the programs; over
+what it left the wrong bodies are refused, a function at a time; and each script of tests/ passes over the built program. It ends with
+what that took, by crate and sort.
 
 Use: tests/gate.py"""
 import collections
@@ -34,24 +34,33 @@ class Watch:
 
     def watch(self):
         while not self.ended.wait(0.5):
-            held = [self.read(pid) for pid in os.listdir("/proc") if pid.isdigit()]
-            self.most_at_once = max(self.most_at_once, sum(held))
-            self.most_of_one = max([self.most_of_one, *held])
+            found = {pid: it for pid in os.listdir("/proc") if pid.isdigit() and (it := self.read(pid))}
+            held = collections.Counter()
+            for pid, (words, fields) in found.items():
+                # a check's copies are its children, and what they used is theirs until they end
+                is_copy = fields[1] in found
+                held[fields[1] if is_copy else pid] += int(fields[21]) * PAGE
+                if not is_copy:
+                    self.keep(pid, words, fields)
+            self.most_at_once = max(self.most_at_once, held.total())
+            self.most_of_one = max([self.most_of_one, *held.values()])
 
     def read(self, pid):
-        """The bytes that the process holds, if it is the prover's; what it used so far is kept by its crate and sort."""
+        """The words and the numbers of the process, as proc(5) tells them from its third on, if it is the prover's."""
         try:
             words = pathlib.Path("/proc", pid, "cmdline").read_bytes().decode(errors="replace").split("\0")
             if not words[0].endswith("/bin/rattle") or "--crate-name" not in words:
-                return 0
-            fields = pathlib.Path("/proc", pid, "stat").read_text().rpartition(")")[2].split()
+                return None
+            return words, pathlib.Path("/proc", pid, "stat").read_text().rpartition(")")[2].split()
         except OSError:
-            return 0
+            return None
+
+    def keep(self, pid, words, fields):
+        """Keeps what the process and its ended children used so far, by its crate and sort."""
         sort = "tests" if "--test" in words else "programs" if "--crate-checked" in words else "proofs"
         crate = words[words.index("--crate-name") + 1]
-        # utime, stime and those of its children, its start, its resident pages: fields 14 to 17, 22 and 24 of proc(5)
+        # utime, stime and those of its children, its start: fields 14 to 17, and 22
         self.used[pid, fields[19]] = crate, sort, sum(map(int, fields[11:15])) / TICKS
-        return int(fields[21]) * PAGE
 
     def end(self):
         """The seconds by crate and sort."""
@@ -65,7 +74,7 @@ class Watch:
 
 def proved():
     """Whether `rt ci` passes, and how many it says have passed. It runs as many checks at once as there are processors, since it guesses
-    at more memory than they take; what it says is kept, for the wrong bodies."""
+    at more memory than they take; all that it says is kept in out/ci.log."""
     kit.kept.mkdir(exist_ok=True)
     how = {"cwd": kit.top, "env": {"RT_JOBS": str(len(os.sched_getaffinity(0))), **os.environ}, "stdin": subprocess.DEVNULL}
     last = ""

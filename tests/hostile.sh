@@ -2,7 +2,8 @@
 # Sources of the greatest length that are hard on a reader: each compiles or is refused within a second, as the first part of its name
 # says, and those of few sentences, phrases, pieces of texts and words of rules and commands take at most 40 bytes of memory for each of
 # theirs. And stories whose rules and codes are hard on a loader: each plays or is refused within a second, as the first part of its name
-# says. And lines of as many commands as there may be, and of commands for as many things: each is played within a second.
+# says. And lines of as many commands as there may be, and of commands for as many things, and as many boxes as there may be, each in the one
+# before: each is played within a second.
 # A program that is built without proofs is slower: I7STORY_SECONDS says how many seconds each may take, where it isn't one.
 # Use: tests/hostile.sh PROGRAM
 set -u
@@ -148,6 +149,11 @@ said = ["\n".join([opening] * 128), "\n".join("".join(f"{thing}: {done}.\n" for 
 open("many_commands.source", "w").write(hall + things)
 open("many_commands.typed", "w").write("".join(line + "\n" for line in typed))
 open("many_commands.want", "w").write("\n>".join([opening, *said, ""]))
+# the most boxes, each in the one before; what is in the last is reached, and the first isn't put into what it holds
+open("nested_boxes.source", "w").write(hall + "x0 is an open container in the Hall.\n" + "".join(f"x{n} is an open container in x{n - 1}.\n" for n in range(1, 986)))
+open("nested_boxes.typed", "w").write("take x985\nput x985 in x984\ntake x0\nput x0 in x985\n")
+said = ["Taken.\n", "You put x985 into x984.\n", "Taken.\n", "You can't put something into what it holds.\n"]
+open("nested_boxes.want", "w").write("\n>".join(["Hall\nYou can see x0 here.\n", *said, ""]))
 text = '"' + "a " * 30000 + '"'
 open("compiles_understand_words_among_things.i7", "w").write(hall + things + f"Understand {text} or {text} or {text} or {text[:-40000]}\" as x985.\n")
 save_sentences("compiles_understand_sentences", 'Understand "a" as ball.\n')
@@ -323,13 +329,15 @@ for story in *.story; do
     echo "hostile: $story: status $status, $(head -c 100 err)"
   fi
 done
-"$program" compile many_commands.source many_commands || exit 1
-timeout "${I7STORY_SECONDS:-1}" "$program" play many_commands <many_commands.typed >out 2>err
-if [ $? = 0 ] && [ ! -s err ] && cmp -s out many_commands.want; then
-  passed=$((passed + 1))
-else
-  failed=$((failed + 1))
-  echo "hostile: many commands: $(head -c 100 err)"
-fi
+for played in many_commands nested_boxes; do
+  "$program" compile $played.source $played || exit 1
+  timeout "${I7STORY_SECONDS:-1}" "$program" play $played <$played.typed >out 2>err
+  if [ $? = 0 ] && [ ! -s err ] && cmp -s out $played.want; then
+    passed=$((passed + 1))
+  else
+    failed=$((failed + 1))
+    echo "hostile: $played: $(head -c 100 err)"
+  fi
+done
 echo "hostile: $passed passed, $failed failed"
 [ $failed = 0 ]

@@ -1,4 +1,4 @@
-/* Refuses one allocation of a program that is preloaded with this: the REFUSE-th, or none.
+/* Refuses one allocation of a program that is preloaded with this: the REFUSE-th, or none; with REFUSE_ON all from that one on.
    At the program's end the number of allocations is written to descriptor 9. */
 #define _GNU_SOURCE
 #include <dlfcn.h>
@@ -7,14 +7,17 @@
 #include <unistd.h>
 
 static long seen, at = -1;
+static int on;
 
 static int refused(void)
 {
     if (at < 0) {
         char *wanted = getenv("REFUSE");
         at = wanted ? atol(wanted) : 0;
+        on = at > 0 && getenv("REFUSE_ON");
     }
-    return ++seen == at;
+    seen++;
+    return seen == at || (on && seen > at);
 }
 
 void *malloc(size_t size)

@@ -2,18 +2,19 @@
 """Tries the wrong bodies: of each the prover must refuse the function that it names.
 
 Use: tests/wrong_bodies.py [CRATE | CRATE/NAME ..]   those of all crates, of some, or some alone; without words, not those of the crates
-                                                     that tests/wrong_bodies/untried names, whose edits haven't been tried so yet
+                                                     that tests/wrong_bodies/untried names
      tests/wrong_bodies.py --stand                   only sees that each can still be applied
 
 A wrong body is a file tests/wrong_bodies/CRATE/NAME.edit: a line `proof: ` with the function whose proof must fail, as a check prints
 it but for the crate; then `file: `, and pairs of `old: `, which stands once in that file, and `new: `.
 
-They are tried over the libraries that `rt ci` or `./i7story prove` left, a crate at a time on each processor. In a copy of the crate
-the proof of each function that no edit names is a hole, so that a call of it is taken by its contract, and little but the named
-functions is proved. These must be proved as they stand, and none with its edit. Edits inside different functions are tried in one
-check, since a proof reads no other function's body."""
+They are tried over the libraries that `rt ci` or `./i7story prove` left, a crate at a time on each processor. A library holds what was proved
+of it, module by module: in a copy of the crate a check begins with that, so that little but the named functions is proved. These must be
+proved as they stand, and none with its edit. Edits inside different functions are tried in one check, since a proof reads no other
+function's body; an edit of a function that calls another with an edit is tried once more, behind that."""
 import collections
 import concurrent.futures
+import json
 import os
 import pathlib
 import re
@@ -82,40 +83,30 @@ def batches(edits):
     return made
 
 
-def hole(room, crate, function):
-    """Makes the proof of a function of the copied crate a hole."""
-    path = function.split("::")
-    at = room.joinpath("proofs", *path)
-    at.mkdir(parents=True, exist_ok=True)
-    for name in ("Invariants.antt", "Answers.antt"):
-        (at / name).unlink(missing_ok=True)
-    (at / "Proof.antt").write_text(
-        f"use Rattle.{crate}.proofs.{'.'.join(path)}.Statement as stated\n\n"
-        f"pub {path[-1]}_spec : {{M : Type 1}} → stated.statement M\n{path[-1]}_spec = ?\n")
-
-
 def verdicts(said, crate):
     """What the check says of each function, by its name."""
     return dict(re.findall(rf"(?m)^fn {crate}::(\S+): (.*)$", said))
 
 
-def stands_proved(verdict, function):
-    """Whether the function's own proof has no hole and isn't refused."""
-    own = f".proofs.{function.replace('::', '.')}."
-    return verdict == "no holes" or verdict.startswith("depends on a hole in ") and own not in verdict
+# An error in a file of lemmas.
+OF_LEMMAS = re.compile(r"(?m)^\./proofs/(\w+)\.antt:\d+:\d+: error")
 
 
-def lacks_own_goal(verdict, function, crate):
+def lacks_own_goal(verdict, said, function, crate):
     """Whether a goal of the function's own is not proved: one that the search left, or one whose answer is refused, or a lemma that it cites.
     The goals of a function that stands in a cycle of calls begin with its name, and stand with the cycle's."""
     path, name = function.replace("::", "/"), function.rpartition("::")[2]
     left = re.match(r"no proof: expected answers in \./proofs/(\S+)/Answers\.antt; `search` did not prove (.*)", verdict)
     refused = re.match(r"not proved; it stands on `Rattle\.\w+\.proofs\.(\S+)\.Answers\.(.*)", verdict)
+    told = re.findall(r"(?m)^\./proofs/(\S+)/Answers\.antt:\d+:\d+: error: `(.*)", said) if verdict.startswith("not proved") else []
     lemma = re.match(r"not proved; it stands on `Rattle\.\w+\.proofs\.([\w.]+)\.[\w-]+`", verdict)
-    if left or refused:
-        own, goals = (left or refused)[1].replace(".", "/"), (left or refused)[2]
-        return own == path or own.rpartition("/")[2].startswith("+") and f"{name}-" in goals
-    return bool(lemma) and (kit.top / "crates" / crate / "proofs" / f"{lemma[1].replace('.', '/')}.antt").is_file()
+    for place, goals in [it.groups() for it in (left, refused) if it] + told:
+        own = place.replace(".", "/")
+        if own == path or own.rpartition("/")[2].startswith("+") and f"{name}-" in goals:
+            return True
+    # a file of lemmas is no function's folder
+    lemmas = [lemma[1].replace(".", "/")] if lemma else [place for place in OF_LEMMAS.findall(said) if verdict == "not proved"]
+    return any((kit.top / "crates" / crate / "proofs" / f"{it}.antt").is_file() for it in lemmas)
 
 
 def unread(said, function):
@@ -137,41 +128,55 @@ def refused(said, edit):
     verdict = verdicts(said, edit.crate).get(edit.proof)
     if verdict is None:
         return f"BAD EDIT, {edit.proof} was not tried: {first_error(said)}"
-    if stands_proved(verdict, edit.proof):
+    if verdict == "proved":
         return f"NOT REFUSED: {edit.proof} is still proved"
-    if not lacks_own_goal(verdict, edit.proof, edit.crate) or unread(said, edit.proof):
+    if not lacks_own_goal(verdict, said, edit.proof, edit.crate) or unread(said, edit.proof):
         return f"BAD EDIT, no goal of {edit.proof} is open: {verdict[:200]}; {unread(said, edit.proof) or first_error(said)}"
     return None
 
 
-class Copy:
-    """A copy of a crate, in which the proofs of all functions but the named ones are holes, and the seconds that its checks took."""
+# How a verdict begins of a function that calls one that isn't proved.
+CALLS = re.compile(r"not proved; it calls |no proof: the borrow checker's part in its proof is not made yet: a call of ")
 
-    def __init__(self, room, crate, named):
+
+def waits(said, edit, batch):
+    """Whether nothing is told of the edit's function but that it calls others that aren't proved, where another edit of the batch may be why."""
+    verdict = verdicts(said, edit.crate).get(edit.proof, "")
+    return len(batch) > 1 and bool(CALLS.match(verdict)) and not lacks_own_goal(verdict, said, edit.proof, edit.crate)
+
+
+def extract(library, to):
+    """Writes what a built library holds of its own proofs, module by module, where a check looks for what it has checked before."""
+    rows = [json.loads(line) for line in (library / "checked.json").read_text().splitlines()]
+    data = (library / "checked.a").read_bytes()
+    modules = {name: data[place : place + size] for name, place, size in rows if "/" not in name}
+    # each module tells by what kernel it was checked
+    kernel = re.search(rb"(?m)^--@ kernel (\S+)$", next(iter(modules.values())))[1].decode()
+    folder = to / kernel.replace("/", "_")
+    folder.mkdir(parents=True)
+    for name, module in modules.items():
+        (folder / f"{name}.oantt").write_bytes(module)
+
+
+class Copy:
+    """A copy of a crate with what was proved of it, and the seconds that its checks took."""
+
+    def __init__(self, room, crate):
         self.room, self.crate, self.seconds = room, crate, 0
         for part in ("src", "specs", "proofs"):
             if (kit.top / "crates" / crate / part).is_dir():
                 shutil.copytree(kit.top / "crates" / crate / part, room / part)
-        for function in kit.functions_of(crate):
-            # the proof of a closure stands in that of the function around it
-            if function not in named and "fn" not in function.split("::"):
-                hole(room, crate, function)
-
-    def fill(self, said):
-        """Puts back the proofs of functions that call themselves, which have a place of their own; answers whether there were any."""
-        found = re.findall(r"(?m)^\./(proofs/\S+)/Proof\.antt: error\[reserved-name\]", said)
-        for path in found:
-            shutil.rmtree(self.room / path)
-            if (kit.top / "crates" / self.crate / path).is_dir():
-                shutil.copytree(kit.top / "crates" / self.crate / path, self.room / path)
-        return bool(found)
+        extract(pathlib.Path(kit.crates()[crate].rlib) / "toolchain", room / "proved")
 
     def checked(self, functions):
-        """What a check of these functions says."""
+        """What a check of these functions says, over what was proved of the crate as it stands."""
         only = [word for function in sorted(functions) for word in ("--only", function)]
-        said, seconds = kit.check(self.crate, self.room, [*only, "--allow-holes", "--incremental", self.room / "kept"])
+        # a check replaces such a file, and changes none
+        shutil.copytree(self.room / "proved", self.room / "kept", copy_function=os.link)
+        said, seconds = kit.check(self.crate, self.room, [*only, "--incremental", self.room / "kept"])
+        shutil.rmtree(self.room / "kept")
         self.seconds += seconds
-        return self.checked(functions) if self.fill(said) else said
+        return said
 
     def checked_with(self, batch):
         """What a check of the edits' functions says, with the edits."""
@@ -187,18 +192,29 @@ class Copy:
         return said
 
 
+def wrong_in(copy, batch):
+    """What is wrong with each edit of a batch, by its name; those that wait for others of it are tried behind these."""
+    wrong = {}
+    while batch:
+        said = copy.checked_with(batch)
+        waiting = [edit for edit in batch if waits(said, edit, batch)]
+        settled = [edit for edit in batch if edit not in waiting or len(waiting) == len(batch)]
+        wrong.update({edit.name: refused(said, edit) for edit in settled})
+        batch = [edit for edit in waiting if edit not in settled]
+    return wrong
+
+
 def tried(crate, edits):
     """What is wrong with each of a crate's edits, by its name, and the processor seconds that trying them took."""
     named = {edit.proof for edit in edits}
     with tempfile.TemporaryDirectory(prefix="wrong-bodies-") as room:
-        copy = Copy(pathlib.Path(room), crate, named)
+        copy = Copy(pathlib.Path(room), crate)
         said = copy.checked(named)
         found = verdicts(said, crate)
-        unproved = {it: found.get(it, "not tried") for it in named if not stands_proved(found.get(it, ""), it)}
+        unproved = {it: found.get(it, "not tried") for it in named if found.get(it) != "proved"}
         wrong = {it.name: f"{it.proof} as it stands: {unproved[it.proof]}, {first_error(said)}" for it in edits if it.proof in unproved}
         for batch in batches([it for it in edits if it.proof not in unproved]):
-            said = copy.checked_with(batch)
-            wrong.update({edit.name: refused(said, edit) for edit in batch})
+            wrong.update(wrong_in(copy, batch))
     return {name: why for name, why in wrong.items() if why}, copy.seconds
 
 
@@ -208,7 +224,7 @@ def all_edits():
 
 
 def to_be_tried(edits):
-    """The edits but for those of crates that haven't been tried a function at a time yet, which it tells."""
+    """The edits but for those of crates where they haven't been tried over what the library holds yet, which it tells."""
     untried = (here / "wrong_bodies" / "untried").read_text().split()
     left = [it for it in edits if it.crate in untried]
     if left:

@@ -5,7 +5,6 @@ import hashlib
 import importlib.util
 import os
 import pathlib
-import re
 import subprocess
 import sys
 import tempfile
@@ -107,13 +106,3 @@ def check(crate, folder, flags):
     words = crates()[crate].words(["--jobs", "1"], keeps=False)
     _, said, seconds, _ = ran([*library().guarded(), library().RATTLE, "check", *words, *flags], cwd=folder)
     return said, seconds
-
-
-def functions_of(crate):
-    """The functions of the crate, as the newest of its proofs told them: that of `rt ci`, or that of `./i7story prove`."""
-    logs = [it for it in (kept / "ci.log", kept / "prove" / f"{crate}.log") if it.is_file()]
-    for log in sorted(logs, key=lambda it: -it.stat().st_mtime):
-        found = re.findall(rf"(?m)^fn {crate}::(\S+): proved$", log.read_text())
-        if found:
-            return list(dict.fromkeys(found))
-    return []

@@ -15,6 +15,7 @@ use play_meaning::{ActionNow, Change, Flow, Outcome, WorldFault};
 use smallvec::SmallVec;
 use standard_rules::{HostAnswer, HostOutcome, HostTable, standard};
 use std::alloc::{AllocError, Global};
+use story_code::unless_refused;
 use world_meaning::{Abandon, ObjNo};
 use world_store::World;
 
@@ -119,10 +120,7 @@ fn make_one(world: &mut World, change: Change) -> Result<(), Abandon>
     ensures tables { world.new.tables ≡ world.old.tables }
     ensures behind { ComesBehind world.old world.new }
 {
-    match make(world, change) {
-        Err(WorldFault::Memory) => Err(Abandon::Memory),
-        _ => Ok(()),
-    }
+    unless_refused(make(world, change))
 }
 
 /// Makes changes in order, up to the first that is refused.

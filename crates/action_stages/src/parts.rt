@@ -6,7 +6,7 @@ ghost use Rattle.action_stages.specs.Parts.{parts};
 use play_meaning::{ActNo, ActionNow, Flow, Outcome};
 
 /// A part of an action (*Writing with Inform*, chapter 12).
-#[derive(Clone, Copy, PartialEq, Eq)]
+#[derive(Clone, Copy)]
 pub enum Part {
     /// A rulebook is consulted.
     Book(u16),

@@ -25,7 +25,7 @@ use story_code::{RunState, Step, Verified};
 use world_meaning::{Abandon, Needs, ObjNo};
 
 /// What a rule does: the author's code of this number, or the standard rule of this number, counted from 1.
-#[derive(Clone, Copy, PartialEq, Eq)]
+#[derive(Clone, Copy)]
 pub enum Does {
     Coded(u16),
     Standard(u8),

@@ -6,7 +6,7 @@ use world_meaning::{Listed, TextBytes};
 pub const MOST_TOKENS: usize = 32;
 
 /// A token of a line that keeps its word.
-#[derive(Debug, Drop)]
+#[derive(Drop)]
 pub enum KeptToken {
     /// A word, as it was written; whatever the case of its letters, it is typed alike.
     Word(TextBytes),
@@ -17,7 +17,7 @@ pub enum KeptToken {
 }
 
 /// A line: `weigh`, a slot, `with` and a slot, for the action of weighing one thing with another.
-#[derive(Debug, Drop)]
+#[derive(Drop)]
 pub struct GrammarLine {
     /// The action that the line asks for.
     pub action: ActNo,

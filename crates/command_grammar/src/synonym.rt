@@ -8,7 +8,7 @@ use std::alloc::{AllocError, Global};
 use world_meaning::{ObjNo, TextBytes};
 
 /// A word, in small letters, that an object goes by.
-#[derive(Debug, Drop)]
+#[derive(Drop)]
 pub struct Synonym {
     pub object: ObjNo,
     pub word: TextBytes,

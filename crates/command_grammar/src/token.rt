@@ -1,7 +1,7 @@
 //! Tokens of the lines of a grammar.
 
 /// A token of a line, as `put`, a slot, `on` and a slot are those of `put X on Y`.
-#[derive(Clone, Copy, Debug)]
+#[derive(Clone, Copy)]
 pub enum Token<'a> {
     /// A word, whatever the case of its letters.
     Word(&'a [u8]),

@@ -5,7 +5,7 @@ ghost use Rattle.command_parser.specs.Scanning.{holds_command, is_letter, scan_e
 ghost use Rattle.command_parser.specs.declared.command_scan.CommandScan.TheVariants.{Command, Cut};
 
 /// What is known of a line by the bytes so far.
-#[derive(Clone, Copy, Debug, PartialEq, Eq)]
+#[derive(Clone, Copy, PartialEq, Eq)]
 pub enum CommandScan {
     /// No command, and no unfinished word.
     Cut,

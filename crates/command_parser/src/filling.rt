@@ -3,7 +3,7 @@ use play_meaning::ActionNow;
 use world_meaning::ObjNo;
 
 /// What the candidates of a slot come to.
-#[derive(Clone, Copy, Debug, PartialEq, Eq)]
+#[derive(Clone, Copy, PartialEq, Eq)]
 pub enum Filling {
     /// There are none.
     Empty,
@@ -14,7 +14,7 @@ pub enum Filling {
 }
 
 /// What the candidates of an action's slots come to.
-#[derive(Clone, Copy, Debug)]
+#[derive(Clone, Copy)]
 pub enum Outcome {
     /// This is done.
     Acts(ActionNow),

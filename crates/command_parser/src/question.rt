@@ -6,7 +6,7 @@ use std::marker::Model;
 use world_meaning::ObjNo;
 
 /// Objects in order.
-#[derive(Debug, Drop)]
+#[derive(Drop)]
 pub struct Objects {
     all: Vec<ObjNo>,
 }
@@ -37,7 +37,7 @@ impl Objects {
 
 /// A question that is open: the action that is asked for, the nouns that are chosen, the objects of which one is meant, and
 /// of each slot behind that the objects that it may mean.
-#[derive(Debug, Drop)]
+#[derive(Drop)]
 pub struct Question {
     action: ActNo,
     chosen: Objects,

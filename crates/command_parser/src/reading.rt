@@ -3,7 +3,7 @@ use crate::Question;
 use play_meaning::{ActNo, ActionNow};
 
 /// What is said to a line without a command to be read, or to a command that does nothing.
-#[derive(Clone, Copy, Debug, PartialEq, Eq)]
+#[derive(Clone, Copy, PartialEq, Eq)]
 pub enum Said {
     /// P1: `I beg your pardon?`, to a line without a command, however long it is.
     Empty,
@@ -20,7 +20,7 @@ pub enum Said {
 }
 
 /// What a command means.
-#[derive(Debug, Drop)]
+#[derive(Drop)]
 pub enum Reading {
     /// This is said, and nothing done.
     Says(Said),

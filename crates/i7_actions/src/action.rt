@@ -7,7 +7,7 @@ use std::alloc::{AllocError, Global};
 use world_meaning::{Listed, Needs, Slot, TextBytes};
 
 /// How many nouns an action has.
-#[derive(Clone, Copy, Debug, PartialEq, Eq)]
+#[derive(Clone, Copy)]
 pub enum NounCount {
     Zero,
     One,
@@ -15,7 +15,7 @@ pub enum NounCount {
 }
 
 /// An action.
-#[derive(Debug, Drop)]
+#[derive(Drop)]
 pub struct Action {
     /// The words of its name; where `it` stands among them, a noun comes in a phrase.
     pub name: Listed<TextBytes>,

@@ -15,7 +15,7 @@ use std::alloc::{AllocError, Global};
 use world_meaning::TextBytes;
 
 /// The nouns of an action, each nothing where it has none.
-#[derive(Debug, Drop)]
+#[derive(Drop)]
 pub struct Nouns {
     pub noun: Referent,
     pub second: Referent,

@@ -18,7 +18,7 @@ use std::alloc::{AllocError, Global};
 use world_meaning::TextBytes;
 
 /// What is tried. A noun that the action hasn't is nothing.
-#[derive(Debug, Drop)]
+#[derive(Drop)]
 pub struct Tried {
     pub action: ActNo,
     pub noun: Referent,

@@ -2,7 +2,7 @@
 use world_meaning::{Listed, Rel, TextBytes};
 
 /// What a name stands for.
-#[derive(Debug, Drop)]
+#[derive(Drop)]
 pub enum Standing {
     /// An object or a number, as a word of the language.
     Reserved,
@@ -21,49 +21,49 @@ pub enum Standing {
 }
 
 /// A value, by its kind of value and its place among that kind's values, from 0.
-#[derive(Debug, Drop)]
+#[derive(Drop)]
 pub struct NamedValue {
     pub kind: TextBytes,
     pub place: usize,
 }
 
 /// A name stands for this.
-#[derive(Debug, Drop)]
+#[derive(Drop)]
 pub struct Naming {
     pub name: TextBytes,
     pub standing: Standing,
 }
 
 /// A kind lies under another.
-#[derive(Debug, Drop)]
+#[derive(Drop)]
 pub struct Lying {
     pub kind: TextBytes,
     pub parent: TextBytes,
 }
 
 /// A kind has a property.
-#[derive(Debug, Drop)]
+#[derive(Drop)]
 pub struct Grant {
     pub kind: TextBytes,
     pub property: TextBytes,
 }
 
 /// The values of a kind of value, in order, as they are written.
-#[derive(Debug, Drop)]
+#[derive(Drop)]
 pub struct Listing {
     pub kind: TextBytes,
     pub values: Listed<TextBytes>,
 }
 
 /// An object is demanded to be of a kind.
-#[derive(Debug, Drop)]
+#[derive(Drop)]
 pub struct Demand {
     pub object: TextBytes,
     pub kind: TextBytes,
 }
 
 /// A holder holds a thing.
-#[derive(Debug, Drop)]
+#[derive(Drop)]
 pub struct Placing {
     pub thing: TextBytes,
     pub relation: Rel,
@@ -71,14 +71,14 @@ pub struct Placing {
 }
 
 /// What an adjective says: an either-or property, by its first name, or a kind of value has this value.
-#[derive(Debug, Drop)]
+#[derive(Drop)]
 pub struct Quality {
     pub property: TextBytes,
     pub value: Value,
 }
 
 /// What is said of a property or a variable.
-#[derive(Clone, Copy, Debug, PartialEq, Eq)]
+#[derive(Clone, Copy)]
 pub enum Value {
     /// An either-or property, by its first name, is true or isn't.
     Truth(bool),
@@ -91,7 +91,7 @@ pub enum Value {
 }
 
 /// A property of an object has a value.
-#[derive(Debug, Drop)]
+#[derive(Drop)]
 pub struct Having {
     pub object: TextBytes,
     pub property: TextBytes,
@@ -99,7 +99,7 @@ pub struct Having {
 }
 
 /// A property of objects of a kind usually has a value.
-#[derive(Debug, Drop)]
+#[derive(Drop)]
 pub struct Usual {
     pub kind: TextBytes,
     pub property: TextBytes,
@@ -107,14 +107,14 @@ pub struct Usual {
 }
 
 /// A variable starts at a number.
-#[derive(Debug, Drop)]
+#[derive(Drop)]
 pub struct Start {
     pub variable: TextBytes,
     pub number: i32,
 }
 
 /// What is claimed, names in small letters.
-#[derive(Debug, Drop)]
+#[derive(Drop)]
 pub enum Fact {
     Stands(Naming),
     Rulebook(TextBytes),
@@ -138,7 +138,7 @@ pub enum Fact {
 }
 
 /// A claim and the line of its sentence.
-#[derive(Debug, Drop)]
+#[derive(Drop)]
 pub struct Claim {
     pub fact: Fact,
     pub line: u32,

@@ -14,7 +14,7 @@ use world_meaning::{Direction, is_spelled};
 pub const FIRST_OF_AUTHOR: usize = 13;
 
 /// The first mention of an object of the author's.
-#[derive(Clone, Copy, Debug)]
+#[derive(Clone, Copy)]
 pub struct Mention<'a> {
     pub name: &'a Name,
     pub line: u32,

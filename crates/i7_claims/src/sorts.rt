@@ -9,7 +9,7 @@ use std::alloc::{AllocError, Global};
 use world_meaning::{KINDS, KindRow, PROPERTIES, PropertyRow};
 
 /// A sort of names.
-#[derive(Clone, Copy, Debug, PartialEq, Eq)]
+#[derive(Clone, Copy, PartialEq, Eq)]
 pub enum Sort {
     EitherOr,
     Number,

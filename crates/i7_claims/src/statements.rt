@@ -9,7 +9,7 @@ use std::alloc::{AllocError, Global};
 use world_meaning::{Direction, Rel, TextBytes};
 
 /// An assertion, objects by their numbers.
-#[derive(Debug, Drop)]
+#[derive(Drop)]
 pub enum Numbered {
     /// Nothing of ways and texts: a title, a heading, what is declared.
     Aside,
@@ -24,7 +24,7 @@ pub enum Numbered {
 }
 
 /// The subject lies in this direction of the room.
-#[derive(Clone, Copy, Debug)]
+#[derive(Clone, Copy)]
 pub struct NumberedWay {
     pub subject: usize,
     pub direction: Direction,
@@ -32,14 +32,14 @@ pub struct NumberedWay {
 }
 
 /// A direction out of a room.
-#[derive(Clone, Copy, Debug)]
+#[derive(Clone, Copy)]
 pub struct NumberedSide {
     pub direction: Direction,
     pub room: usize,
 }
 
 /// The door is in the one direction of the one room, and in the other of the other.
-#[derive(Clone, Copy, Debug)]
+#[derive(Clone, Copy)]
 pub struct NumberedDoor {
     pub door: usize,
     pub first: NumberedSide,
@@ -47,7 +47,7 @@ pub struct NumberedDoor {
 }
 
 /// What a sentence asserts, objects by their numbers, and its line.
-#[derive(Debug, Drop)]
+#[derive(Drop)]
 pub struct NumberedSentence {
     pub said: Numbered,
     pub line: u32,

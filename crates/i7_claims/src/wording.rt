@@ -13,7 +13,7 @@ use std::marker::Model;
 use world_meaning::{Listed, TextBytes, is_spelled, lowered};
 
 /// What words say: either-or properties, in order, and a kind, if they name one.
-#[derive(Debug, Drop)]
+#[derive(Drop)]
 pub struct What {
     pub qualities: Listed<Quality>,
     pub kind: Option<TextBytes>,

@@ -7,7 +7,7 @@ use play_meaning::tree::{Basic, Number};
 use world_meaning::{TextBytes, is_spelled};
 
 /// How the first number is to the second.
-#[derive(Clone, Copy, Debug, PartialEq, Eq)]
+#[derive(Clone, Copy)]
 pub enum Comparison {
     Greater,
     Less,

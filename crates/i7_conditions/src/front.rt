@@ -12,14 +12,14 @@ use std::alloc::{AllocError, Global};
 use world_meaning::{KindNo, Listed, TextBytes};
 
 /// Adjectives, and the kind behind them.
-#[derive(Debug, Drop)]
+#[derive(Drop)]
 pub struct Front {
     pub adjectives: Listed<Adjective>,
     pub kind: KindNo,
 }
 
 /// What words are cut into first.
-#[derive(Clone, Copy, Debug, PartialEq, Eq)]
+#[derive(Clone, Copy, Debug)]
 pub enum Step {
     /// They can't be cut.
     Stops,

@@ -8,7 +8,7 @@ use crate::word::is_from;
 use world_meaning::{TextBytes, is_spelled};
 
 /// A word that joins parts.
-#[derive(Clone, Copy, Debug, PartialEq, Eq)]
+#[derive(Clone, Copy)]
 pub enum Joint {
     From,
     And,

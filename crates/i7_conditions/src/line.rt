@@ -2,7 +2,7 @@
 use play_meaning::tree::{Condition, Description, Simple};
 
 /// A line of a rule's body.
-#[derive(Debug, Drop)]
+#[derive(Drop)]
 pub struct Line {
     /// How many lines this one belongs to: what stands behind `if`, `otherwise` or `repeat` is one deeper than that.
     pub depth: usize,

@@ -2,7 +2,7 @@
 use world_meaning::ObjNo;
 
 /// An opening, or what a run of words without `from` names behind the openings in front of it.
-#[derive(Clone, Copy, Debug, PartialEq, Eq)]
+#[derive(Clone, Copy)]
 pub enum Mark {
     /// `the room DIRECTION from ROOM` begins.
     Room,

@@ -3,7 +3,7 @@ use play_meaning::tree::Side;
 use world_meaning::{KindNo, ObjNo};
 
 /// What a name stands for, by its number.
-#[derive(Clone, Copy, Debug, PartialEq, Eq)]
+#[derive(Clone, Copy, Debug)]
 pub enum Meaning {
     Object(ObjNo),
     Kind(KindNo),

@@ -13,7 +13,7 @@ use play_meaning::tree::{Branch, Condition, Phrase};
 use std::alloc::{AllocError, Global};
 
 /// What was read so far of the lines of one depth, the last first.
-#[derive(Debug, Drop)]
+#[derive(Drop)]
 struct Level {
     /// Whether an `otherwise` was read, whose `if` is still to come.
     waits: bool,

@@ -20,7 +20,7 @@ use std::alloc::{AllocError, Global};
 use world_meaning::{Rel, TextBytes};
 
 /// What is said of an object.
-#[derive(Debug, Drop)]
+#[derive(Drop)]
 pub enum Predicate {
     So(Adjective),
     One(Description),

@@ -16,7 +16,7 @@ use std::alloc::{AllocError, Global};
 use world_meaning::TextBytes;
 
 /// That an object has this value of this kind of value.
-#[derive(Debug, Drop)]
+#[derive(Drop)]
 pub struct Valuing {
     pub object: Referent,
     pub kind: u8,

@@ -7,7 +7,7 @@ use play_meaning::tree::{Basic, Referent};
 use world_meaning::Rel;
 
 /// A verb between two objects.
-#[derive(Clone, Copy, Debug, PartialEq, Eq)]
+#[derive(Clone, Copy)]
 pub enum Verb {
     Carries,
     Wears,

@@ -17,14 +17,14 @@ use std::alloc::{AllocError, Global};
 use world_meaning::{Fault, FaultCode, Object};
 
 /// The lines and synonyms of an author's, each in the order of the source.
-#[derive(Debug, Drop)]
+#[derive(Drop)]
 pub struct Grammar {
     pub lines: Vec<GrammarLine>,
     pub synonyms: Vec<Synonym>,
 }
 
 /// What the sentences of a source tell.
-#[derive(Debug, Drop)]
+#[derive(Drop)]
 pub enum GrammarFound {
     Says(Grammar),
     /// The source is refused for what they tell.

@@ -11,7 +11,7 @@ use std::alloc::{AllocError, Global};
 use world_meaning::{TextBytes, is_spelled};
 
 /// What words mean.
-#[derive(Clone, Copy, Debug, PartialEq, Eq)]
+#[derive(Clone, Copy)]
 pub enum Target {
     /// An action by its number, and how many nouns it has.
     Action(u8, NounCount),

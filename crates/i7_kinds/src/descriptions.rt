@@ -12,7 +12,7 @@ use indexmap::IndexMap;
 use std::alloc::{AllocError, Global};
 
 /// An object, and a text that describes it.
-#[derive(Debug, Drop)]
+#[derive(Drop)]
 pub struct Description<'a> {
     pub object: usize,
     pub text: LentText<'a>,

@@ -11,7 +11,7 @@ use std::alloc::{AllocError, Global};
 use world_meaning::{Article, Direction};
 
 /// An object's name as it is printed, and its article.
-#[derive(Debug, Drop)]
+#[derive(Drop)]
 pub struct Entry<'a> {
     pub name: LentText<'a>,
     pub article: Article,

@@ -34,7 +34,7 @@ use i7_claims::{
 use std::alloc::{AllocError, Global};
 
 /// The lowest line of each fault.
-#[derive(Clone, Copy, Debug, PartialEq, Eq)]
+#[derive(Clone, Copy)]
 pub struct Faults {
     /// A name, a list of values, a description or a value that is a second one.
     pub twice: Option<u32>,

@@ -10,7 +10,7 @@ use std::alloc::{AllocError, Global};
 use world_meaning::{Granted, KindNo, Listed, PropertyRow};
 
 /// A property and a kind to which a sentence gives it, by their numbers.
-#[derive(Clone, Copy, Debug)]
+#[derive(Clone, Copy)]
 pub struct Given {
     pub property: usize,
     pub kind: usize,

@@ -12,7 +12,7 @@ use std::alloc::{AllocError, Global};
 use world_meaning::{KindNo, Rel};
 
 /// What is demanded of an object so far: the deepest kind on whose path all demands lie, if there are any.
-#[derive(Clone, Copy, Debug)]
+#[derive(Clone, Copy)]
 pub enum Demanded {
     Nothing,
     Deepest(usize),
@@ -20,7 +20,7 @@ pub enum Demanded {
 }
 
 /// What is known of an object so far.
-#[derive(Clone, Copy, Debug)]
+#[derive(Clone, Copy)]
 pub struct Known {
     pub demanded: Demanded,
     /// Whether something is in it.

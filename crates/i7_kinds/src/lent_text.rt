@@ -4,7 +4,7 @@ ghost use Rattle.std.specs.Prelude.{◌≡◌};
 use std::marker::Model;
 
 /// Bytes of a sentence's text, seen by contracts as their list.
-#[derive(Debug, Drop)]
+#[derive(Drop)]
 pub struct LentText<'a> {
     bytes: &'a [u8],
 }

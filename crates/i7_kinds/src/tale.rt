@@ -5,11 +5,11 @@ ghost use Rattle.i7_kinds.specs.Bounds.{AreSmallPlaces, AreWithin};
 ghost use Rattle.i7_kinds.specs.Demands.{descriptions_of};
 ghost use Rattle.i7_kinds.specs.Described.{descriptions_in};
 ghost use Rattle.i7_kinds.specs.KindClaims.{declared_by, kind_names, parents_of};
-ghost use Rattle.i7_kinds.specs.Knowns.{off_path as off_path_of};
+ghost use Rattle.i7_kinds.specs.Knowns.{knowns_of, off_path as off_path_of};
 ghost use Rattle.i7_kinds.specs.Places.{places_by};
 ghost use Rattle.i7_kinds.specs.StatedWays.{stated};
 ghost use Rattle.i7_kinds.specs.Suits.{first_room, with_player};
-ghost use Rattle.i7_kinds.specs.Tales.{HasLine, entries_of, frame_refusal, judged, long_by, long_in, long_of, long_said, long_with, made_of, no_room, objects_of, refusal_at, refusal_of, said_by, said_in, scope_of, tale_in, tale_made, tale_said};
+ghost use Rattle.i7_kinds.specs.Tales.{HasLine, entries_of, frame_refusal, judged, judged_by, long_by, long_in, long_of, long_said, long_with, made_of, no_room, objects_of, refusal_at, refusal_of, said_by, said_in, scope_of, tale_in, tale_made, tale_said};
 ghost use Rattle.i7_kinds.specs.Ready.{IsReady};
 ghost use Rattle.i7_claims.specs.Standings.{built_in_namings};
 ghost use Rattle.i7_claims.specs.Statements.{named_by};
@@ -42,7 +42,7 @@ use world_meaning::{Declared, Fault, FaultCode, Listed, MOST_BYTES, Object, Plac
 
 /// The tale that sentences mean, and the lowest line at which they have a name or a description that is too long: C12, but
 /// behind what their rules and commands are refused for, which have their own.
-#[derive(Debug, Drop)]
+#[derive(Drop)]
 pub struct TaleSaid {
     pub tale: Tale,
     pub long_line: Option<u32>,
@@ -215,6 +215,44 @@ fn tale_made(
     Ok(Tale { declared, objects })
 }
 
+/// The tale of what is known, described and stated, or the refusal that stands.
+fn judged_by(
+    alloc: Global,
+    scope: &Scope<'_>,
+    knowns: &[Known],
+    off_path: Option<u32>,
+    claims: &[Claim],
+    mentions: &[Mention<'_>],
+    descriptions: &Descriptions<'_>,
+    ways: &Ways<'_>,
+) -> Result<Result<TaleSaid, Fault>, AllocError>
+    requires knowns { knowns.now ≡ knowns_of scope.now claims.now }
+    requires off { off_path ≡ off_path_of scope.now claims.now }
+    requires described { descriptions_in descriptions.now ≡ descriptions_of scope.now.parents knowns.now (stated ways.now) }
+    requires within { AreWithin (length scope.now.objects) (stated ways.now) }
+    requires counted { length scope.now.objects ≡ 13 + length (mentions_of mentions.now) }
+    requires scope { scope.now ≡ scope_of claims.now scope.now.objects }
+    ensures tale { IfOk result (λ said. tale_in said ≡ judged_by scope.now knowns.now claims.now (stated ways.now) (mentions_of mentions.now)) }
+    ensures line { IfOk result (λ said. HasLine (long_in claims.now (descriptions_in descriptions.now) (mentions_of mentions.now)) said) }
+{
+    let refused = refusal_of(
+        alloc,
+        scope,
+        knowns,
+        off_path,
+        claims,
+        mentions,
+        descriptions,
+        ways,
+    )?;
+    if let Some(fault) = refused {
+        return Ok(Err(fault));
+    }
+    let long_line = long_in(alloc, claims, mentions, descriptions)?;
+    let tale = tale_made(alloc, scope, knowns, claims, mentions, descriptions, ways)?;
+    Ok(Ok(TaleSaid { tale, long_line }))
+}
+
 /// The tale of these claims and statements, or the refusal that stands.
 fn judged(
     alloc: Global,
@@ -229,18 +267,11 @@ fn judged(
     ensures tale { IfOk result (λ said. tale_in said ≡ judged scope.now claims.now statements.now (mentions_of mentions.now)) }
     ensures line { IfOk result (λ said. HasLine (long_of scope.now claims.now statements.now (mentions_of mentions.now)) said) }
 {
-    let all = known_by(alloc, scope, claims)?;
-    let known = all.knowns.as_slice();
-    let texts = Descriptions::new(alloc, scope.parents(), known, statements)?;
     let ways = Ways::new(alloc, statements)?;
-    let off = all.off_path;
-    let refused = refusal_of(alloc, scope, known, off, claims, mentions, &texts, &ways)?;
-    if let Some(fault) = refused {
-        return Ok(Err(fault));
-    }
-    let tale = tale_made(alloc, scope, known, claims, mentions, &texts, &ways)?;
-    let long_line = long_in(alloc, claims, mentions, &texts)?;
-    Ok(Ok(TaleSaid { tale, long_line }))
+    let all = known_by(alloc, scope, claims)?;
+    let (knowns, off) = (all.knowns.as_slice(), all.off_path);
+    let texts = Descriptions::new(alloc, scope.parents(), knowns, statements)?;
+    judged_by(alloc, scope, knowns, off, claims, mentions, &texts, &ways)
 }
 
 /// What the sentences mean, where the kinds have these names and these kinds above them.

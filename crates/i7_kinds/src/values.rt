@@ -15,7 +15,7 @@ use indexmap::IndexMap;
 use std::alloc::{AllocError, Global};
 
 /// Whose properties sentences tell of; a variable has one, its value.
-#[derive(Clone, Copy, Debug, PartialEq, Eq)]
+#[derive(Clone, Copy, PartialEq, Eq)]
 pub enum Bearer {
     Objects,
     Kinds,
@@ -23,14 +23,14 @@ pub enum Bearer {
 }
 
 /// A property of an object or of a kind, by the numbers of both.
-#[derive(Clone, Copy, Debug, Hash, PartialEq, Eq)]
+#[derive(Clone, Copy, Hash, PartialEq, Eq)]
 pub struct Slot {
     pub bearer: usize,
     pub property: usize,
 }
 
 /// What is said of a property.
-#[derive(Clone, Copy, Debug)]
+#[derive(Clone, Copy)]
 pub struct Told {
     pub slot: Slot,
     pub value: Value,

@@ -9,21 +9,21 @@ use std::alloc::{AllocError, Global};
 use world_meaning::{Direction, ObjNo};
 
 /// A direction out of an object, by the numbers of both.
-#[derive(Clone, Copy, Debug, Hash, PartialEq, Eq)]
+#[derive(Clone, Copy, Hash, PartialEq, Eq)]
 pub struct Exit {
     pub room: usize,
     pub direction: ObjNo,
 }
 
 /// The room beyond, and the door on the way.
-#[derive(Clone, Copy, Debug)]
+#[derive(Clone, Copy)]
 pub struct Target {
     pub room: usize,
     pub door: Option<usize>,
 }
 
 /// An exit leads to a target.
-#[derive(Clone, Copy, Debug)]
+#[derive(Clone, Copy)]
 pub struct Lead {
     pub exit: Exit,
     pub target: Target,

@@ -3,7 +3,7 @@ ghost use Rattle.std.specs.Prelude.{◌≡◌};
 ghost use Rattle.i7_lexer.specs.Bytes.{is_letter, is_blank, class_of};
 
 /// What a byte can begin outside texts and comments.
-#[derive(Clone, Copy, Debug, PartialEq, Eq)]
+#[derive(Clone, Copy, PartialEq, Eq)]
 pub(crate) enum ByteClass {
     /// A word.
     Letter,

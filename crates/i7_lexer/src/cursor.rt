@@ -11,7 +11,7 @@ use crate::Start;
 use crate::lexeme::{Lexeme, Piece};
 
 /// A place between two lexemes.
-#[derive(Clone, Copy, Debug, PartialEq, Eq)]
+#[derive(Clone, Copy)]
 pub(crate) struct Cursor {
     /// The line, counted from 1.
     pub line: u32,

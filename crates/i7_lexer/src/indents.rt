@@ -7,7 +7,7 @@ use crate::lexeme::Piece;
 use crate::placed::Placed;
 
 /// The line before, as far as it says how deep the next may be.
-#[derive(Clone, Copy, Debug)]
+#[derive(Clone, Copy)]
 pub(crate) struct LineBefore {
     indent: u32,
     /// Whether its last token is a colon.
@@ -16,7 +16,7 @@ pub(crate) struct LineBefore {
 
 /// A text so far: the line that it has come to, and the first of its lines that is deeper than the line before
 /// lets it be.
-#[derive(Clone, Copy, Debug)]
+#[derive(Clone, Copy)]
 pub(crate) struct Depth {
     before: LineBefore,
     pub deep: Option<u32>,

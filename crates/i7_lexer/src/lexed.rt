@@ -5,7 +5,7 @@ use crate::PackedToken;
 use std::marker::Model;
 
 /// The tokens of a source, in order.
-#[derive(Debug, Drop)]
+#[derive(Drop)]
 pub struct Lexed {
     tokens: Vec<PackedToken>,
 }

@@ -9,7 +9,7 @@ use crate::byte_class::{ByteClass, class_of, is_blank, is_letter};
 use crate::span::Span;
 
 /// A lexeme that is kept as a token.
-#[derive(Debug, Drop)]
+#[derive(Drop)]
 pub(crate) enum Piece<'a> {
     Word(Span<'a>),
     /// A text, without its quotes.
@@ -18,7 +18,7 @@ pub(crate) enum Piece<'a> {
 }
 
 /// A lexeme: words and white space are as long as they can be.
-#[derive(Debug, Drop)]
+#[derive(Drop)]
 pub(crate) enum Lexeme<'a> {
     Kept(Piece<'a>),
     Space(Span<'a>),

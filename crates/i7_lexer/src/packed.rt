@@ -11,14 +11,14 @@ use std::alloc::{AllocError, Global};
 use std::marker::Model;
 
 /// Which tokens have bytes of their own.
-#[derive(Clone, Copy, Debug, PartialEq, Eq)]
+#[derive(Clone, Copy, PartialEq, Eq)]
 pub(crate) enum Sort {
     Text,
     Word,
 }
 
 /// A start with an indent of one byte.
-#[derive(Clone, Copy, Debug, PartialEq, Eq)]
+#[derive(Clone, Copy)]
 pub(crate) enum NearStart {
     Paragraph,
     Line { indent: u8 },
@@ -27,14 +27,14 @@ pub(crate) enum NearStart {
 }
 
 /// What doesn't lie in the token.
-#[derive(Debug, Drop)]
+#[derive(Drop)]
 struct Distant {
     start: Start,
     bytes: Vec<u8>,
 }
 
 /// How a token is kept.
-#[derive(Debug, Drop)]
+#[derive(Drop)]
 enum Shape {
     Mark {
         byte: u8,
@@ -55,7 +55,7 @@ enum Shape {
 }
 
 /// A token as it is kept, seen by contracts as the token.
-#[derive(Debug, Drop)]
+#[derive(Drop)]
 pub struct PackedToken {
     shape: Shape,
 }

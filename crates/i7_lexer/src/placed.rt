@@ -8,7 +8,7 @@ use crate::lexeme::{Lexeme, Piece, next_lexeme};
 use std::marker::Model;
 
 /// A lexeme that is kept as a token, and the place before it.
-#[derive(Debug, Drop)]
+#[derive(Drop)]
 pub(crate) struct Placed<'a> {
     pub piece: Piece<'a>,
     pub at: Cursor,
@@ -16,7 +16,7 @@ pub(crate) struct Placed<'a> {
 
 /// The words, texts and marks from a place of a text on, up to where a text or a comment has no end;
 /// seen by contracts as their list.
-#[derive(Debug, Drop)]
+#[derive(Drop)]
 pub(crate) struct Places<'a> {
     at: Cursor,
     rest: &'a [u8],

@@ -7,7 +7,7 @@ use std::marker::Model;
 pub(crate) const MOST: usize = 7;
 
 /// Bytes, seen by contracts as their list.
-#[derive(Debug, Drop)]
+#[derive(Drop)]
 pub(crate) struct ShortBytes {
     len: u8,
     bytes: [u8; 7],

@@ -14,7 +14,7 @@ use crate::placed::Placed;
 use world_meaning::{Fault, FaultCode};
 
 /// What is found in a text that can be cut.
-#[derive(Clone, Copy, Debug)]
+#[derive(Clone, Copy)]
 pub(crate) struct Survey {
     /// How many words, texts and marks it has.
     pub count: usize,

@@ -2,7 +2,7 @@
 use crate::span::Span;
 
 /// What a token is.
-#[derive(Debug, Drop)]
+#[derive(Drop)]
 pub enum TokenKind<'a> {
     /// A text, without its quotes. A line break in it stands as one space, a paragraph break as two
     /// line feeds.
@@ -15,7 +15,7 @@ pub enum TokenKind<'a> {
 }
 
 /// How a token stands on its line.
-#[derive(Clone, Copy, Debug, PartialEq, Eq)]
+#[derive(Clone, Copy)]
 pub enum Start {
     /// It is the first of its paragraph.
     Paragraph,
@@ -29,7 +29,7 @@ pub enum Start {
 }
 
 /// A token, and where it stands.
-#[derive(Debug, Drop)]
+#[derive(Drop)]
 pub struct Token<'a> {
     pub kind: TokenKind<'a>,
     /// The line of the token's first byte, counted from 1.

@@ -1,5 +1,7 @@
 //! The names of a source by their numbers: each is numbered among those of its sort.
-ghost use Rattle.std.specs.Prelude.{◌≡◌, IfOk, map};
+ghost use Rattle.std.specs.Prelude.{◌≡◌, IfOk, Ok, map};
+ghost use Rattle.i7_claims.specs.Sorts.{names_as};
+ghost use Rattle.i7_claims.specs.declared.sorts.Sort.TheVariants.{ValueKind};
 ghost use Rattle.i7_names.specs.Numbering.{counts_listed, numbering_by};
 
 use crate::number::{object_number, small_number};
@@ -47,6 +49,33 @@ fn counts_listed(
     Ok(counts)
 }
 
+/// The names of the kinds of value, and how many values each has.
+fn values_counted(alloc: Global, claims: &[Claim]) -> Result<(Strings, Vec<usize>), AllocError>
+    ensures names { IfOk result (λ found. found.0 ≡ names_as ValueKind claims.now) }
+    ensures counts { IfOk result (λ found. found.1.items ≡ counts_listed claims.now (names_as ValueKind claims.now)) }
+{
+    let kinds = names_as(alloc, Sort::ValueKind, claims)?;
+    match counts_listed(alloc, claims, kinds.as_slice()) {
+        Ok(counts) => Ok((kinds, counts)),
+        Err(refused) => {
+            drop(kinds);
+            Err(refused)
+        }
+    }
+}
+
+/// Both, if neither was refused.
+fn both<A: Drop, B: Drop>(
+    left: Result<A, AllocError>,
+    right: Result<B, AllocError>,
+) -> Result<(A, B), AllocError>
+    ensures { IfOk result (λ found. (left ≡ Ok found.0) × (right ≡ Ok found.1)) }
+{
+    let first = left?;
+    let second = right?;
+    Ok((first, second))
+}
+
 /// The numbers of what the claims declare, where the objects have these names.
 pub fn numbering_of<'a>(
     alloc: Global,
@@ -55,15 +84,22 @@ pub fn numbering_of<'a>(
 ) -> Result<Numbering<'a>, AllocError>
     ensures { IfOk result (λ numbering. numbering ≡ numbering_by objects.now claims.now) }
 {
-    let value_kinds = names_as(alloc, Sort::ValueKind, claims)?;
-    let value_counts = counts_listed(alloc, claims, value_kinds.as_slice())?;
+    let kinds = both(kind_names(alloc, claims), values_counted(alloc, claims));
+    let qualities = names_as(alloc, Sort::EitherOr, claims);
+    let properties = both(qualities, names_as(alloc, Sort::Number, claims));
+    let variables = names_as(alloc, Sort::Variable, claims);
+    let changing = both(variables, names_as(alloc, Sort::Scene, claims));
+    let (kinds, (properties, changing)) = both(kinds, both(properties, changing))?;
+    let (kinds, (value_kinds, value_counts)) = kinds;
+    let (qualities, numbers) = properties;
+    let (variables, scenes) = changing;
     Ok(Numbering {
         objects,
-        kinds: kind_names(alloc, claims)?,
-        qualities: names_as(alloc, Sort::EitherOr, claims)?,
-        numbers: names_as(alloc, Sort::Number, claims)?,
-        variables: names_as(alloc, Sort::Variable, claims)?,
-        scenes: names_as(alloc, Sort::Scene, claims)?,
+        kinds,
+        qualities,
+        numbers,
+        variables,
+        scenes,
         value_kinds,
         value_counts,
     })

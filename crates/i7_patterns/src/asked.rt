@@ -1,7 +1,7 @@
 //! What words ask, if they ask something.
 
 /// What words ask.
-#[derive(Debug, Drop)]
+#[derive(Drop)]
 pub enum Asked<T> {
     Read(T),
     /// They ask something, but in a place that is no room, or for a value of a kind of value (C8).

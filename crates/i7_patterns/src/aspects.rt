@@ -16,7 +16,7 @@ use std::alloc::{AllocError, Global};
 use world_meaning::{TextBytes, is_spelled};
 
 /// What is asked of an action's nouns and of the place.
-#[derive(Debug, Drop)]
+#[derive(Drop)]
 pub struct Aspects {
     pub nouns: Nouns,
     pub place: Aspect,

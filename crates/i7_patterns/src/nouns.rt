@@ -14,7 +14,7 @@ use std::alloc::{AllocError, Global};
 use world_meaning::TextBytes;
 
 /// What is asked of the noun and of the second noun, nothing where the action has none.
-#[derive(Debug, Drop)]
+#[derive(Drop)]
 pub struct Nouns {
     pub noun: Aspect,
     pub second: Aspect,

@@ -10,7 +10,7 @@ use std::alloc::{AllocError, Global};
 use world_meaning::TextBytes;
 
 /// The repeats that are open behind some phrases of a body, the outermost first.
-#[derive(Debug, Drop)]
+#[derive(Drop)]
 pub struct Around {
     /// How many blocks stand around each.
     depths: Vec<usize>,

@@ -14,7 +14,7 @@ use std::alloc::{AllocError, Global};
 use world_meaning::TextBytes;
 
 /// What holds a number, properties and variables going by their numbers.
-#[derive(Debug, Drop)]
+#[derive(Drop)]
 pub enum Cell {
     Variable(u8),
     /// `the PROPERTY of OBJECT`

@@ -11,7 +11,7 @@ use play_meaning::tree::{Condition, Piece, Said, Text};
 use std::alloc::{AllocError, Global};
 
 /// Where a text stands behind some of its pieces.
-#[derive(Clone, Copy, Debug, PartialEq, Eq)]
+#[derive(Clone, Copy, PartialEq, Eq)]
 pub enum Place {
     Outside,
     /// Behind an `[if C]`.
@@ -21,7 +21,7 @@ pub enum Place {
 }
 
 /// What is read of a text.
-#[derive(Debug, Drop)]
+#[derive(Drop)]
 pub enum Draft {
     Outside(Vec<Said>),
     Then(Vec<Said>, Condition, Vec<Piece>),
@@ -31,7 +31,7 @@ pub enum Draft {
 }
 
 /// What a piece of a text says or opens.
-#[derive(Debug, Drop)]
+#[derive(Drop)]
 pub enum Sense {
     Said(Found<Piece>),
     If(Found<Condition>),

@@ -14,7 +14,7 @@ use std::alloc::{AllocError, Global};
 use world_meaning::TextBytes;
 
 /// What a sentence comes to that lists a rule.
-#[derive(Clone, Copy, Debug)]
+#[derive(Clone, Copy)]
 pub enum ListingFound {
     Lists(ListingSentence),
     /// There is no such rule, or no such rulebook (C7).

@@ -27,7 +27,7 @@ use world_meaning::{Fault, FaultCode, Tale, TextBytes};
 
 /// The rules of a source, the texts that describe, and where sentences list rules, each in the order of their sentences, its scenes, by
 /// number, and the lines and synonyms of its commands.
-#[derive(Debug, Drop)]
+#[derive(Drop)]
 pub struct Resolved {
     pub rules: Vec<SourceRule>,
     pub texts: Vec<SourceText>,
@@ -46,7 +46,7 @@ type Lists = (
 );
 
 /// What is resolved of a source.
-#[derive(Debug, Drop)]
+#[derive(Drop)]
 pub enum Resolution {
     Says(Resolved),
     Refused(Fault),

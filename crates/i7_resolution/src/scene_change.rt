@@ -16,7 +16,7 @@ use std::alloc::{AllocError, Global};
 use world_meaning::TextBytes;
 
 /// A scene, by its number, and the condition on which it begins or ends.
-#[derive(Debug, Drop)]
+#[derive(Drop)]
 pub struct SceneTold {
     pub scene: u8,
     pub condition: Condition,

@@ -18,7 +18,7 @@ use std::alloc::{AllocError, Global};
 use world_meaning::{Fault, FaultCode, TextBytes};
 
 /// Where the sentences of a source list rules.
-#[derive(Debug, Drop)]
+#[derive(Drop)]
 pub enum ListingsFound {
     /// What each that lists a rule says, in order: the rule by its number, the sixty-one that every story has being the first.
     Says(Vec<ListingSentence>),

@@ -16,7 +16,7 @@ use std::alloc::{AllocError, Global};
 use world_meaning::{Fault, FaultCode};
 
 /// When the scenes of a source begin and end.
-#[derive(Debug, Drop)]
+#[derive(Drop)]
 pub enum ScenesFound {
     /// The scenes, by number.
     Says(Vec<MeantScene>),

@@ -18,7 +18,7 @@ use std::alloc::{AllocError, Global};
 use world_meaning::{Fault, FaultCode};
 
 /// A text that describes.
-#[derive(Debug, Drop)]
+#[derive(Drop)]
 pub struct SourceText {
     /// The line of its sentence.
     pub line: u32,
@@ -26,7 +26,7 @@ pub struct SourceText {
 }
 
 /// What the texts of a source say that describe.
-#[derive(Debug, Drop)]
+#[derive(Drop)]
 pub enum TextsFound {
     /// What each says, in order.
     Says(Vec<SourceText>),

@@ -4,13 +4,15 @@ use Rattle.i7_sentences.specs.declared.rule.RulePhrase.{RulePhrase}
 use Rattle.play_meaning.specs.Meant.{body_meant}
 use Rattle.play_meaning.specs.Trees.{Body}
 use Rattle.i7_conditions.specs.Nesting.{IsBody, at}
+use Rattle.i7_conditions.specs.Readings.{IsFoundAs}
 use Rattle.i7_conditions.specs.declared.found.Found.{Found}
 use Rattle.i7_conditions.specs.declared.found.Found.TheVariants.{Read, TooMany, Unread}
 use Rattle.i7_conditions.specs.declared.line.Line.{Line}
 use Rattle.i7_conditions.specs.declared.line.Step.{Step}
-use Rattle.i7_phrases.specs.Around.{Open, open_behind}
+use Rattle.i7_phrases.specs.Around.{Open, left, open_behind}
 use Rattle.i7_rules.specs.Bodies.{AreLines, AreUnderstood, IsOverAt, IsUnknown}
 use Rattle.i7_rules.specs.Knowns.{Known}
+use Rattle.i7_rules.specs.Lines.{StatesAmong, found_stated, is_over_among}
 use Rattle.i7_rules.specs.declared.body.BodyRead.{BodyRead}
 use Rattle.i7_rules.specs.declared.body.BodyRead.TheVariants as read
 use Rattle.i7_rules.specs.declared.body.SoFar.{SoFar}
@@ -38,6 +40,12 @@ abbrev pub with_found : State → RulePhrase → Found Step → Option State
 with_found state p (Read step) = Some (with_line state (at p.depth step))
 with_found state p TooMany = Some (over_at state p.line)
 with_found state p Unread = None
+
+-- what a phrase is found to be, with these loops around the one before it
+abbrev pub IsFoundAround : Known → Open → RulePhrase → Found Step → Type 0
+IsFoundAround k around p found =
+    let names = reverse (left p.depth around).names in
+    IsFoundAs (StatesAmong k names p) (is_over_among names p) (found_stated found)
 
 -- what was read of these phrases, the last first
 abbrev pub IsSoFar : Known → List RulePhrase → State → Type 0

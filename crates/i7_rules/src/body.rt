@@ -3,7 +3,7 @@ ghost use Rattle.std.specs.Prelude.{◌≡◌, IfOk, OnOk, option_map};
 ghost use Rattle.i7_phrases.specs.Around.{around_of, passed};
 ghost use Rattle.i7_rules.specs.Bodies.{IsBodyRead};
 ghost use Rattle.i7_rules.specs.Knowns.{known_of};
-ghost use Rattle.i7_rules.specs.ReadSoFar.{IsEnded, over_at, state_of, with_found, with_line, ReadsOn};
+ghost use Rattle.i7_rules.specs.ReadSoFar.{IsEnded, IsFoundAround, over_at, state_of, with_found, with_line, ReadsOn};
 
 use crate::known::Known;
 use crate::step::step_of;
@@ -14,7 +14,7 @@ use play_meaning::tree::Phrase;
 use std::alloc::{AllocError, Global};
 
 /// What the phrases of a rule are.
-#[derive(Debug, Drop)]
+#[derive(Drop)]
 pub enum BodyRead {
     /// The body of their lines.
     Says(Vec<Phrase>),
@@ -27,7 +27,7 @@ pub enum BodyRead {
 }
 
 /// What is read of a body's first phrases.
-#[derive(Debug, Drop)]
+#[derive(Drop)]
 enum SoFar {
     Lines(Vec<Line>),
     /// A phrase at this line is over its limits.
@@ -79,6 +79,27 @@ fn with_found(
     }
 }
 
+/// What the next phrase is found to be, which is passed.
+fn found_next(
+    alloc: Global,
+    known: &Known<'_>,
+    around: &mut Around,
+    phrase: &RulePhrase,
+) -> Result<Found<Step>, AllocError>
+    ensures read { IfOk result (IsFoundAround (known_of known.now) (around_of around.old) phrase.now) }
+    ensures around { OnOk result (around_of around.new ≡ passed phrase.now (around_of around.old)) }
+{
+    around.leave(phrase.depth);
+    let found = step_of(alloc, known, around.names(), phrase)?;
+    match around.pass(alloc, phrase) {
+        Ok(()) => Ok(found),
+        Err(refused) => {
+            drop(found);
+            Err(refused)
+        }
+    }
+}
+
 /// What is read with one phrase more, if that is understood.
 fn read_on(
     alloc: Global,
@@ -91,10 +112,13 @@ fn read_on(
     ensures around { OnOk result (around_of around.new ≡ passed phrase.now (around_of around.old)) }
 {
     open_repeats_stand_around();
-    around.leave(phrase.depth);
-    let found = step_of(alloc, known, around.names(), phrase)?;
-    around.pass(alloc, phrase)?;
-    with_found(so_far, phrase, found)
+    match found_next(alloc, known, around, phrase) {
+        Ok(found) => with_found(so_far, phrase, found),
+        Err(refused) => {
+            drop(so_far);
+            Err(refused)
+        }
+    }
 }
 
 /// What a body is whose phrases were read.

@@ -12,7 +12,7 @@ use play_meaning::tree::{MeantRule, RuleHead};
 use std::alloc::{AllocError, Global};
 
 /// What a rule of a source is.
-#[derive(Debug, Drop)]
+#[derive(Drop)]
 pub enum RuleFound {
     Says(MeantRule),
     /// The names allow no reading of what stands at this line, the first of such (C7): the head, at the rule's line, or a

@@ -16,7 +16,7 @@ use std::alloc::{AllocError, Global};
 use world_meaning::{Fault, FaultCode, TextBytes};
 
 /// A rule of a source.
-#[derive(Debug, Drop)]
+#[derive(Drop)]
 pub struct SourceRule {
     /// The line of its sentence.
     pub line: u32,
@@ -26,7 +26,7 @@ pub struct SourceRule {
 }
 
 /// What the rules of a source are.
-#[derive(Debug, Drop)]
+#[derive(Drop)]
 pub enum RulesFound {
     /// All of them, in order.
     Says(Vec<SourceRule>),
@@ -64,11 +64,17 @@ fn one_too_many(rules: &[RuleAt<'_>]) -> Option<u32>
 fn kept_of(alloc: Global, rule: &RuleAt<'_>, meant: MeantRule) -> Result<SourceRule, AllocError>
     ensures { IfOk result (λ kept. kept ≡ kept_of (rule_lent rule.now) meant) }
 {
-    Ok(SourceRule {
-        line: rule.line,
-        name: name_of(alloc, rule)?,
-        rule: meant,
-    })
+    match name_of(alloc, rule) {
+        Ok(name) => Ok(SourceRule {
+            line: rule.line,
+            name,
+            rule: meant,
+        }),
+        Err(refused) => {
+            drop(meant);
+            Err(refused)
+        }
+    }
 }
 
 /// With a rule that is found to be so.

@@ -11,7 +11,7 @@ use std::alloc::{AllocError, Global};
 use world_meaning::{Needs, Slot};
 
 /// What a sentence says that declares an action.
-#[derive(Debug, Drop)]
+#[derive(Drop)]
 pub struct ActionDeclaration {
     /// The words between the free article and `is`.
     pub name: WordList,

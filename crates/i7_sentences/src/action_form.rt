@@ -4,7 +4,7 @@ use crate::form::Piece::{Letter, Word};
 use crate::{Class, Form, Keyword, Piece};
 
 /// Whether an action is of the story's world, and done in the dark.
-#[derive(Clone, Copy, Debug, PartialEq, Eq)]
+#[derive(Clone, Copy, PartialEq, Eq)]
 pub enum ActionSort {
     /// Of the world, and done in the dark as in the light.
     InWorld,

@@ -14,7 +14,7 @@ use std::alloc::{AllocError, Global};
 
 /// An `if`, an `otherwise` or a `repeat` whose deeper lines may go on, or an `if C,` or an `otherwise` in
 /// front of such a `repeat`.
-#[derive(Clone, Copy, Debug, PartialEq, Eq)]
+#[derive(Clone, Copy)]
 pub struct Block {
     pub indent: u32,
     /// Whether an `otherwise` may follow.

@@ -8,7 +8,7 @@ use crate::tagged::Tagged;
 use crate::word::word_of;
 
 /// What a letter stands for.
-#[derive(Clone, Copy, Debug, PartialEq, Eq)]
+#[derive(Clone, Copy, PartialEq, Eq)]
 pub enum Class {
     /// One or more words, whatever they are.
     Words,
@@ -39,7 +39,7 @@ pub enum Class {
 }
 
 /// How far the words of a letter are read.
-#[derive(Clone, Copy, Debug, PartialEq, Eq)]
+#[derive(Clone, Copy)]
 pub enum State {
     /// At its first word.
     Start,

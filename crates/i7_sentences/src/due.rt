@@ -3,7 +3,7 @@ ghost use Rattle.std.specs.Prelude.{◌≡◌};
 ghost use Rattle.i7_sentences.specs.Dues.{is_after_then, is_awaiting, is_deeper, is_done, is_then, lacks_deeper, line_due, wants_phrase};
 
 /// What the phrases so far want of the next.
-#[derive(Clone, Copy, Debug, PartialEq, Eq)]
+#[derive(Clone, Copy)]
 pub enum DueKind {
     /// A phrase, behind a rule's head.
     First,
@@ -20,7 +20,7 @@ pub enum DueKind {
 }
 
 /// What the next phrase has to be, the indent that it is measured by, and the line that wants it.
-#[derive(Clone, Copy, Debug, PartialEq, Eq)]
+#[derive(Clone, Copy)]
 pub struct Due {
     pub kind: DueKind,
     pub indent: u32,

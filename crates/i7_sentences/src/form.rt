@@ -5,7 +5,7 @@ use crate::{Class, Keyword, PhraseForm};
 use world_meaning::Rel;
 
 /// A piece of a sentence form.
-#[derive(Clone, Copy, Debug, PartialEq, Eq)]
+#[derive(Clone, Copy, PartialEq, Eq)]
 pub enum Piece {
     /// This word or mark.
     Word(Keyword),
@@ -14,7 +14,7 @@ pub enum Piece {
 }
 
 /// The variants of the sentence forms.
-#[derive(Clone, Copy, Debug, PartialEq, Eq)]
+#[derive(Clone, Copy, PartialEq, Eq)]
 pub enum Form {
     /// A text alone.
     Description,

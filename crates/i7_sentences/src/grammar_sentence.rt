@@ -15,7 +15,7 @@ use std::alloc::{AllocError, Global};
 use world_meaning::{Listed, TextBytes, is_spelled};
 
 /// What a sentence says that tells what commands or words mean.
-#[derive(Debug, Drop)]
+#[derive(Drop)]
 pub struct Understanding {
     /// The texts that `or` parts, as they are written; between brackets stands `something` or `direction` alone.
     pub texts: Listed<TextBytes>,

@@ -10,7 +10,7 @@ use i7_lexer::{PackedToken, TokenKind};
 use world_meaning::is_spelled;
 
 /// A word or mark that stands in a sentence form or in no name.
-#[derive(Clone, Copy, Debug, PartialEq, Eq)]
+#[derive(Clone, Copy, PartialEq, Eq)]
 pub enum Keyword {
     A,
     Above,

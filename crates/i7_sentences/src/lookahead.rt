@@ -13,7 +13,7 @@ use crate::{Class, Keyword, Piece};
 use std::alloc::{AllocError, Global};
 
 /// Whether a letter that is read so far can end in the words left, with the pieces behind it.
-#[derive(Clone, Copy, Debug)]
+#[derive(Clone, Copy)]
 struct Ahead {
     start: bool,
     inside: bool,

@@ -9,7 +9,7 @@ use std::alloc::{AllocError, Global};
 use world_meaning::TextBytes;
 
 /// The article that a sentence puts before a name.
-#[derive(Clone, Copy, Debug, PartialEq, Eq)]
+#[derive(Clone, Copy, PartialEq, Eq)]
 pub enum NameArticle {
     None,
     /// `a`, `an` or `the`
@@ -18,7 +18,7 @@ pub enum NameArticle {
 }
 
 /// A name as written, its words parted by one space, and the article before it.
-#[derive(Debug, Drop)]
+#[derive(Drop)]
 pub struct Name {
     pub text: TextBytes,
     pub article: NameArticle,

@@ -10,7 +10,7 @@ use std::alloc::{AllocError, Global};
 use std::marker::Model;
 
 /// Names as a sentence lists them, in order.
-#[derive(Debug, Drop)]
+#[derive(Drop)]
 pub struct Names {
     all: Vec<Name>,
 }

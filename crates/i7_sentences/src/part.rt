@@ -2,7 +2,7 @@
 use i7_lexer::PackedToken;
 
 /// What a part of a source is read as.
-#[derive(Clone, Copy, Debug, PartialEq, Eq)]
+#[derive(Clone, Copy, PartialEq, Eq)]
 pub enum PartKind {
     /// The source's first sentence, if it is a text alone or a text by somebody.
     Title,
@@ -12,7 +12,7 @@ pub enum PartKind {
 }
 
 /// A part of a source: one or more tokens.
-#[derive(Clone, Copy, Debug)]
+#[derive(Clone, Copy)]
 pub struct Part<'a> {
     pub kind: PartKind,
     pub tokens: &'a [PackedToken],

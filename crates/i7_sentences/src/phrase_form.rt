@@ -15,7 +15,7 @@ use i7_lexer::PackedToken;
 use std::alloc::{AllocError, Global};
 
 /// What a phrase is, by its shape.
-#[derive(Clone, Copy, Debug, PartialEq, Eq)]
+#[derive(Clone, Copy, PartialEq, Eq)]
 pub enum PhraseForm {
     Say,
     /// With `is` or `are`, `carries` or `wears` behind it.
@@ -41,7 +41,7 @@ pub enum PhraseForm {
 }
 
 /// A phrase's form, and whether a name in it holds a reserved word.
-#[derive(Clone, Copy, Debug, PartialEq, Eq)]
+#[derive(Clone, Copy, PartialEq, Eq)]
 pub struct PhraseShape {
     pub form: PhraseForm,
     pub has_reserved_name: bool,

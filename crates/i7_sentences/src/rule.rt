@@ -5,7 +5,7 @@ use crate::{Spoken, WordList};
 use std::marker::Model;
 
 /// The book that a rule's head names.
-#[derive(Debug, Drop)]
+#[derive(Drop)]
 pub enum RuleBook {
     /// `before`
     Before,
@@ -32,7 +32,7 @@ pub enum RuleBook {
 }
 
 /// What a rule's head says of the action and of the place.
-#[derive(Debug, Drop)]
+#[derive(Drop)]
 pub enum RuleSubject {
     /// Nothing.
     Anything,
@@ -43,7 +43,7 @@ pub enum RuleSubject {
 }
 
 /// A phrase of a rule's body.
-#[derive(Debug, Drop)]
+#[derive(Drop)]
 pub struct RulePhrase {
     /// The line of its first token, counted from 1.
     pub line: u32,
@@ -56,7 +56,7 @@ pub struct RulePhrase {
 }
 
 /// The phrases of a rule's body, in order.
-#[derive(Debug, Drop)]
+#[derive(Drop)]
 pub struct RuleBody {
     all: Vec<RulePhrase>,
 }
@@ -87,7 +87,7 @@ impl RuleBody {
 }
 
 /// A rule that a sentence says.
-#[derive(Debug, Drop)]
+#[derive(Drop)]
 pub struct Rule {
     pub book: RuleBook,
     pub subject: RuleSubject,

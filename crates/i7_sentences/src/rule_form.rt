@@ -13,7 +13,7 @@ use crate::{Class, Form, FormRow, Keyword, Piece};
 use std::alloc::{AllocError, Global};
 
 /// Which book a head names.
-#[derive(Clone, Copy, Debug, PartialEq, Eq)]
+#[derive(Clone, Copy, PartialEq, Eq)]
 pub enum HeadBook {
     Before,
     Instead,
@@ -32,7 +32,7 @@ pub enum HeadBook {
 }
 
 /// What stands in a head behind the words of its book, up to the name or the body.
-#[derive(Clone, Copy, Debug, PartialEq, Eq)]
+#[derive(Clone, Copy, PartialEq, Eq)]
 pub enum HeadParts {
     Nothing,
     /// A pattern, perhaps `during S`, perhaps `when C`.
@@ -47,7 +47,7 @@ pub enum HeadParts {
 
 /// What stands in a head: its letters are the name of a scene or of a book of the author's, all that is told behind
 /// the words of the book and the rule's name, as far as they are there, and at last the body.
-#[derive(Clone, Copy, Debug, PartialEq, Eq)]
+#[derive(Clone, Copy, PartialEq, Eq)]
 pub struct HeadForm {
     pub book: HeadBook,
     pub parts: HeadParts,

@@ -8,7 +8,7 @@ use crate::{Assertion, WordList};
 use std::alloc::{AllocError, Global};
 
 /// Where a sentence lists a rule.
-#[derive(Debug, Drop)]
+#[derive(Drop)]
 pub enum ListedIn {
     /// `is listed first in the instead rules`: the words between the free article and `rules`
     First(WordList),
@@ -19,7 +19,7 @@ pub enum ListedIn {
 }
 
 /// What a sentence says that lists a rule.
-#[derive(Debug, Drop)]
+#[derive(Drop)]
 pub struct RuleListing {
     /// The words between the free article and `rule`.
     pub rule: WordList,

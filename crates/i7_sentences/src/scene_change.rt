@@ -9,14 +9,14 @@ use crate::{Assertion, WordList};
 use std::alloc::{AllocError, Global};
 
 /// What a condition decides of a scene.
-#[derive(Clone, Copy, Debug, PartialEq, Eq)]
+#[derive(Clone, Copy)]
 pub enum SceneEdge {
     Begins,
     Ends,
 }
 
 /// What a sentence says of a scene: that it begins or ends where a condition holds.
-#[derive(Debug, Drop)]
+#[derive(Drop)]
 pub struct SceneChange {
     /// The words between the free article and `begins` or `ends`.
     pub scene: WordList,

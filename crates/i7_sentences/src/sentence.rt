@@ -3,7 +3,7 @@ use crate::{ActionDeclaration, Name, Names, Rule, RuleListing, SceneChange, Unde
 use world_meaning::{Direction, Rel, TextBytes};
 
 /// What one sentence asserts, its names as it mentions them.
-#[derive(Debug, Drop)]
+#[derive(Drop)]
 pub enum Assertion {
     /// A title or a heading, which asserts nothing.
     Aside,
@@ -114,7 +114,7 @@ pub enum Assertion {
 }
 
 /// A way: the subject lies in this direction of the room.
-#[derive(Debug, Drop)]
+#[derive(Drop)]
 pub struct Way {
     pub subject: Name,
     pub direction: Direction,
@@ -124,14 +124,14 @@ pub struct Way {
 }
 
 /// A side of a room, on which a door is.
-#[derive(Debug, Drop)]
+#[derive(Drop)]
 pub struct Side {
     pub direction: Direction,
     pub room: Name,
 }
 
 /// What objects are said to be.
-#[derive(Debug, Drop)]
+#[derive(Drop)]
 pub struct Being {
     pub subjects: Names,
     /// Adjectives, perhaps behind `not`, and perhaps a kind: the words, parted by one space; none where only
@@ -141,14 +141,14 @@ pub struct Being {
 }
 
 /// What holds an object, and how.
-#[derive(Debug, Drop)]
+#[derive(Drop)]
 pub struct Holder {
     pub relation: Rel,
     pub name: Name,
 }
 
 /// A sentence and the line, counted from 1, of its first token.
-#[derive(Debug, Drop)]
+#[derive(Drop)]
 pub struct Sentence {
     pub said: Assertion,
     pub line: u32,

@@ -4,7 +4,7 @@ use world_meaning::TextBytes;
 
 /// What a phrase says. Words are as written; those of a rulebook and of a loop's name are without the free
 /// article in front.
-#[derive(Debug, Drop)]
+#[derive(Drop)]
 pub enum Spoken {
     /// A text that is said, with how many bytes it has as it is written, brackets and all.
     Say { text: TextPieces, length: usize },

@@ -5,7 +5,7 @@ ghost use Rattle.i7_sentences.specs.TextPieces.{if_step, ifs_end, is_outside};
 use crate::TextPiece;
 
 /// Where a place in a text is.
-#[derive(Clone, Copy, Debug, PartialEq, Eq)]
+#[derive(Clone, Copy)]
 pub enum IfPlace {
     /// In no if.
     Outside,

@@ -6,7 +6,7 @@ use std::marker::Model;
 use world_meaning::TextBytes;
 
 /// A piece of a text, as it is said.
-#[derive(Debug, Drop)]
+#[derive(Drop)]
 pub enum TextPiece {
     /// Bytes as they are printed, line breaks and quotes among them.
     Printed(TextBytes),
@@ -21,7 +21,7 @@ pub enum TextPiece {
 }
 
 /// The pieces of a text, in order.
-#[derive(Debug, Drop)]
+#[derive(Drop)]
 pub struct TextPieces {
     all: Vec<TextPiece>,
 }

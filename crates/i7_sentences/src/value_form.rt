@@ -3,7 +3,7 @@ use crate::form::Piece::{Letter, Word};
 use crate::{Class, Form, Keyword, Piece};
 
 /// Which letter of a form names a kind of value.
-#[derive(Clone, Copy, Debug, PartialEq, Eq)]
+#[derive(Clone, Copy, PartialEq, Eq)]
 pub enum KindLetter {
     First,
     /// The first, by the kind's plural.

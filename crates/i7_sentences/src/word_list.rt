@@ -11,7 +11,7 @@ use std::marker::Model;
 use world_meaning::{TextBytes, is_spelled};
 
 /// Words as they are written, in order.
-#[derive(Debug, Drop)]
+#[derive(Drop)]
 pub struct WordList {
     all: Vec<TextBytes>,
 }

@@ -58,3 +58,5 @@ pub mod Turns
 pub mod Values
 pub mod WorldRows
 pub mod Worlds
+pub mod FaultTexts
+pub mod WrittenTables

@@ -38,7 +38,7 @@ impl ActNo {
 }
 
 /// An action that is tried, with its nouns.
-#[derive(Clone, Copy, Debug, PartialEq, Eq)]
+#[derive(Clone, Copy, Debug)]
 pub struct ActionNow {
     pub action: ActNo,
     pub noun: Option<ObjNo>,

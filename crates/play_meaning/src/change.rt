@@ -1,14 +1,15 @@
 //! A change of the world as data, and what comes of making it.
-ghost use Rattle.std.specs.Prelude.{◌≡◌, OnErr, OnOk};
+ghost use Rattle.std.specs.Prelude.{◌≡◌, ◌≢◌, Err, MatchResult, OnErr, OnOk};
 ghost use Rattle.play_meaning.specs.Changes.{Remembers};
 ghost use Rattle.play_meaning.specs.Effects.{made};
+ghost use Rattle.play_meaning.specs.declared.fault.WorldFault.TheVariants.{Memory};
 
 use crate::{GroundMut, SceneNow, WorldFault};
 use std::alloc::AllocError;
 use world_meaning::{ObjNo, Rel, TextBytes};
 
 /// One change of the world: a call of `GroundMut` with its arguments, properties, variables, kinds of value and scenes by their numbers.
-#[derive(Debug, Drop)]
+#[derive(Drop)]
 pub enum Change {
     SetFlag {
         object: ObjNo,
@@ -49,6 +50,16 @@ impl Default for Change {
     }
 }
 
+/// A change that isn't allowed does nothing; one that can't be remembered is refused.
+fn unless_refused(answer: Result<(), WorldFault>) -> Result<(), AllocError>
+    ensures { MatchResult result (λ done. answer ≢ Err Memory) (λ refused. answer ≡ Err Memory) }
+{
+    match answer {
+        Err(WorldFault::Memory) => Err(AllocError),
+        _ => Ok(()),
+    }
+}
+
 /// Makes a change; one that isn't allowed does nothing.
 ///
 /// # Errors
@@ -85,8 +96,5 @@ pub fn make<G: GroundMut>(ground: &mut G, change: Change) -> Result<(), AllocErr
         Change::SetScene { scene, now } => ground.set_scene(scene, now),
         Change::EndStory(text) => ground.end_story(text),
     };
-    match answer {
-        Err(WorldFault::Memory) => Err(AllocError),
-        _ => Ok(()),
-    }
+    unless_refused(answer)
 }

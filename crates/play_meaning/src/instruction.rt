@@ -4,7 +4,7 @@ use crate::naming::Naming;
 use world_meaning::Rel;
 
 /// How an either-or property is asked: by its first name, by its second, or that it isn't so.
-#[derive(Clone, Copy, Debug, PartialEq, Eq)]
+#[derive(Clone, Copy, Debug)]
 pub enum Asked {
     IsFirst,
     IsSecond,
@@ -14,7 +14,7 @@ pub enum Asked {
 
 /// An instruction. Properties, variables, kinds, kinds of value and their values, scenes, actions, rulebooks, strings and codes go by their numbers, open
 /// loops by how many are open around them, ways by the places of the code to which they lead, counted in bytes.
-#[derive(Clone, Copy, Debug, PartialEq, Eq)]
+#[derive(Clone, Copy, Debug)]
 pub enum Instruction {
     /// A number.
     Num(i32),

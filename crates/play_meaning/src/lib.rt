@@ -22,6 +22,7 @@ mod scene;
 mod sight_laws;
 pub mod standard_actions;
 pub mod standard_books;
+mod table_laws;
 pub mod tree;
 mod way;
 mod work_laws;
@@ -57,5 +58,6 @@ pub use phrase_laws::{
 };
 pub use scene::SceneNow;
 pub use sight_laws::{placing_is_by_chains, sight_is_by_chains};
+pub use table_laws::books_are_as_written;
 pub use way::{OpenLoop, Way};
 pub use work_laws::work_is_bounded;

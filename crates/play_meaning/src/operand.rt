@@ -1,7 +1,7 @@
 //! What is known of a code before it is run: the sorts of its operands, what it is for, what its arguments may name.
 
 /// What an operand is.
-#[derive(Clone, Copy, Debug, Default, PartialEq, Eq)]
+#[derive(Clone, Copy, Default, PartialEq, Eq)]
 pub enum Sort {
     #[default]
     Number,
@@ -12,7 +12,7 @@ pub enum Sort {
 }
 
 /// What a code is for.
-#[derive(Clone, Copy, Debug, PartialEq, Eq)]
+#[derive(Clone, Copy)]
 pub enum Use {
     /// It asks, and its answer is a truth; so many loops are open around it.
     Test(u8),
@@ -23,7 +23,7 @@ pub enum Use {
 }
 
 /// How many there are in a story of what the arguments of a code name.
-#[derive(Clone, Copy, Debug, PartialEq, Eq)]
+#[derive(Clone, Copy)]
 pub struct Counts {
     pub objects: u16,
     pub kinds: u16,

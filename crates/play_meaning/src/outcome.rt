@@ -1,14 +1,14 @@
 //! Decisions of rules, and how a rule's body leaves off.
 
 /// What a rule decides of an action (*Writing with Inform*, chapter 19).
-#[derive(Clone, Copy, Debug, PartialEq, Eq)]
+#[derive(Clone, Copy, Debug)]
 pub enum Outcome {
     Success,
     Failure,
 }
 
 /// How a phrase, or a body, leaves off.
-#[derive(Clone, Copy, Debug, PartialEq, Eq)]
+#[derive(Clone, Copy, Debug)]
 pub enum Flow {
     /// The next phrase follows.
     GoesOn,

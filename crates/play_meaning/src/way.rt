@@ -1,7 +1,7 @@
 //! How the instructions of a code go on, and the loops that are open at a place of it.
 
 /// How an instruction goes on. Ways lead to places of the same code, counted in bytes.
-#[derive(Clone, Copy, Debug, PartialEq, Eq)]
+#[derive(Clone, Copy)]
 pub enum Way {
     /// To what stands behind.
     Straight,
@@ -18,7 +18,7 @@ pub enum Way {
 }
 
 /// An open loop: the place of its next turn, and of its exit.
-#[derive(Clone, Copy, Debug, Default, PartialEq, Eq)]
+#[derive(Clone, Copy, Default)]
 pub struct OpenLoop {
     pub head: u16,
     pub exit: u16,

@@ -10,7 +10,7 @@ use std::marker::Model;
 use world_meaning::{KindNo, Listed};
 
 /// The rules of each rulebook, by their numbers, in order.
-#[derive(Debug, Drop)]
+#[derive(Drop)]
 pub struct Books {
     all: Vec<Listed<u16>>,
 }

@@ -9,7 +9,7 @@ use std::alloc::{AllocError, Global};
 use world_meaning::KindNo;
 
 /// A listed rule: entries are compared by their books, and then by their keys.
-#[derive(Clone, Copy, Debug, PartialEq, Eq, PartialOrd, Ord)]
+#[derive(Clone, Copy, PartialEq, Eq, PartialOrd, Ord)]
 pub struct Entry {
     pub book: u16,
     pub key: Key,

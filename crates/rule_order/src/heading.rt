@@ -2,7 +2,7 @@
 use play_meaning::tree::{Listing, Pattern};
 
 /// What the order of a rulebook looks at in a rule.
-#[derive(Clone, Copy, Debug)]
+#[derive(Clone, Copy)]
 pub struct Heading<'a> {
     /// The rulebook, by its number.
     pub book: u16,

@@ -9,7 +9,7 @@ use std::cmp::Reverse;
 use world_meaning::KindNo;
 
 /// Keys are compared by their variants, and then field by field.
-#[derive(Clone, Copy, Debug, PartialEq, Eq, PartialOrd, Ord)]
+#[derive(Clone, Copy, PartialEq, Eq, PartialOrd, Ord)]
 pub enum Key {
     /// Listed first, by the number of the sentence: the latest goes first.
     First(Reverse<u32>),

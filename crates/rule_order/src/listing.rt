@@ -7,7 +7,7 @@ use play_meaning::tree::Listing;
 use std::alloc::{AllocError, Global};
 
 /// Where a sentence lists a rule.
-#[derive(Clone, Copy, Debug, PartialEq, Eq)]
+#[derive(Clone, Copy)]
 pub enum Front {
     /// `is listed first in`
     First,
@@ -18,7 +18,7 @@ pub enum Front {
 }
 
 /// A sentence that lists a rule.
-#[derive(Clone, Copy, Debug, PartialEq, Eq)]
+#[derive(Clone, Copy)]
 pub struct ListingSentence {
     /// The rule, by its number.
     pub rule: usize,

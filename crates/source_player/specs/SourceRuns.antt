@@ -4,7 +4,6 @@ use Rattle.world_meaning.specs.declared.session.Ending.{Ending}
 use Rattle.world_meaning.specs.declared.tale.Tale.{Tale}
 use Rattle.play_meaning.specs.Games.{Game}
 use Rattle.play_meaning.specs.Sessions.{State, opened}
-use Rattle.play_meaning.specs.Transcripts.{IsPlay}
 use Rattle.story_format.specs.Contents.{Contents}
 use Rattle.story_format.specs.Holding.{AreHeld}
 use Rattle.story_format.specs.Refusals.{IsRefused as IsNoStory}
@@ -101,15 +100,12 @@ LeavesSource (Story fault) stored source echo before after = (fault ≡ load.Mem
 LeavesSource (Start fault) stored source echo before after = IsUnbegun fault stored × IsMeant source
 LeavesSource (Run fault) stored source echo before after = (stored ≡ 61) × BrokeOffSource fault source echo before after
 
--- A source was played over bytes of commands: the transcript is the play of all of them.
+-- A source was played over bytes of commands, as over a reader of them and a writer that holds nothing at first: the transcript is the
+-- play of all of them.
 pub record PlayedBytes (source commands : List ℕ) (echo : Bool) (transcript : List ℕ) (ending : Ending) : Type 0 where
-  pub tale : Tale
-  pub said : Contents
-  pub means : Means source tale said
-  pub held : AreHeld tale said
-  pub last : State
-  pub play : IsPlay (game_meant tale said) echo (opened (game_meant tale said)).state commands transcript last
-  pub ended : last.ending ≡ Some ending
+  pub after : Streams
+  pub written : after.held ≡ Some transcript
+  pub played : PlayedSource source echo (streams_of (Some commands) (Some [])) after ending
 
 -- Why a source isn't played over bytes of commands, where there are so many stored rules: what playing it leaves, where the
 -- commands are read into a transcript that is empty at first.

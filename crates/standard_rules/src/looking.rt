@@ -1,10 +1,11 @@
 //! The rules of looking (the Standard Rules).
-ghost use Rattle.std.specs.Prelude.{◌≡◌, ◌∷◌, ◌++◌, [], IfOk, Some, codes, not};
+ghost use Rattle.std.specs.Prelude.{◌≡◌, ◌≢◌, ◌∷◌, ◌++◌, [], IfOk, OnErr, Some, codes, not};
 ghost use Rattle.play_meaning.specs.Saying.{chosen, description_in};
 ghost use Rattle.play_meaning.specs.Worlds.{location_of};
 ghost use Rattle.play_meaning.specs.declared.naming.Naming.TheVariants.{Plain};
-ghost use Rattle.standard_rules.specs.Answers.{HasEffect, IsTold, answer_of, telling_in, name_of, is_lit};
+ghost use Rattle.standard_rules.specs.Answers.{HasEffect, IsTold, answer_of, is_lit, name_of, out_of_range, telling_in};
 ghost use Rattle.world_meaning.specs.Texts.{said};
+ghost use Rattle.world_meaning.specs.declared.session.Abandon.TheVariants.{NumberOutOfRange};
 
 use crate::answer::{HostAnswer, making, out_of_range, said, saying, silence};
 use crate::texts::{Named, listed_if_any, with_name};
@@ -13,6 +14,17 @@ use std::alloc::{AllocError, Global};
 use world_meaning::standard_properties::VISITED;
 use world_meaning::{Abandon, ObjNo};
 use world_store::World;
+
+/// The answer of a rule whose text can't be said.
+fn untold(alloc: Global, reason: Abandon) -> Result<HostAnswer, AllocError>
+    ensures abandoned { IfOk result (λ answer. (reason ≡ NumberOutOfRange) × (answer_of answer ≡ out_of_range)) }
+    ensures refused { OnErr result (reason ≢ NumberOutOfRange) }
+{
+    match reason {
+        Abandon::NumberOutOfRange => Ok(out_of_range(alloc)),
+        Abandon::NestedTooDeep | Abandon::Memory | Abandon::TooMuchWork => Err(AllocError),
+    }
+}
 
 /// The answer that describes an object, with a line break behind it, where it is described.
 pub fn described(
@@ -25,8 +37,7 @@ pub fn described(
 {
     match world.describe(alloc, now, object) {
         Ok(text) => Ok(saying(alloc, text)),
-        Err(Abandon::NumberOutOfRange) => Ok(out_of_range(alloc)),
-        Err(_) => Err(AllocError),
+        Err(reason) => untold(alloc, reason),
     }
 }
 

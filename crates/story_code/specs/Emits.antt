@@ -1,5 +1,5 @@
 -- What is emitted: the bytes of a tree's code, and behind it those of the tests that it names.
-use Rattle.std.specs.Prelude.{◌≡◌, ℕ, true, IfErr, List, [], ◌∷◌, Result}
+use Rattle.std.specs.Prelude.{◌≡◌, ℕ, true, Err, IfErr, List, [], ◌∷◌, Result}
 use Rattle.play_meaning.specs.Translation.{Emitted, Part, body_part, one, seq}
 use Rattle.play_meaning.specs.Trees.{Body}
 use Rattle.play_meaning.specs.declared.instruction.Instruction.{Instruction}
@@ -28,6 +28,10 @@ pub record AreEmitted (e : Emitted) (bytes : List (List ℕ)) : Type 0 where
 -- so it is where what is told is that the codes are too long
 abbrev pub IfTooLong : {T : Type 0} → Result T EmitFault → Type 0 → Type 0
 IfTooLong result so = IfErr result (λ fault. fault ≡ TooLong → so)
+
+-- what doesn't fit is too long, whatever memory there is
+abbrev pub IsUnfit : {T : Type 0} → Result T EmitFault → Type 0
+IsUnfit result = result ≡ Err TooLong
 
 -- nothing but memory lacked
 abbrev pub IsOnlyMemory : {T : Type 0} → Result T EmitFault → Type 0

@@ -3,6 +3,7 @@ pub mod Asking
 pub mod Choosing
 pub mod Emits
 pub mod Emitting
+pub mod FaultTexts
 pub mod Fits
 pub mod Fitting
 pub mod FittingRows

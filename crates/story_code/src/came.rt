@@ -1,7 +1,7 @@
 //! What an instruction that reads comes to.
 
 /// What an instruction that reads comes to.
-#[derive(Clone, Copy, Debug, PartialEq, Eq)]
+#[derive(Clone, Copy)]
 pub enum Came {
     /// The run goes on.
     On,

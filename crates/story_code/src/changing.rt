@@ -10,8 +10,8 @@ use play_meaning::{Ground, GroundMut, WorldFault};
 use std::alloc::Global;
 use world_meaning::{Abandon, KindNo, ObjNo, Rel, TextBytes};
 
-/// A change that isn't allowed does nothing; one that can't be remembered abandons the turn.
-fn unless_refused(answer: Result<(), WorldFault>) -> Result<(), Abandon>
+/// What a change comes to: one that isn't allowed does nothing, one that can't be remembered abandons the turn.
+pub fn unless_refused(answer: Result<(), WorldFault>) -> Result<(), Abandon>
     ensures { MatchResult result (λ done. answer ≢ Err Unremembered) (λ reason. (answer ≡ Err Unremembered) × (reason ≡ Memory)) }
 {
     match answer {

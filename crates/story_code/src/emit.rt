@@ -1,12 +1,13 @@
 //! The codes of trees: of a rule's body, of a condition, of a description, each with the tests that it names.
-ghost use Rattle.std.specs.Prelude.{◌≡◌, ℕ, ◌∷◌, false, IfErr, IfOk, OnOk};
+ghost use Rattle.std.specs.Prelude.{◌≡◌, ℕ, ◌∷◌, false, IfErr, IfOk, OnOk, Some};
 ghost use Rattle.object_words.specs.Mentions.{number_in};
 ghost use Rattle.play_meaning.specs.Meant.{body_meant, condition_meant, text_meant};
 ghost use Rattle.play_meaning.specs.TranslatedScripts.{description_part, test_part};
 ghost use Rattle.play_meaning.specs.Translation.{Part};
 ghost use Rattle.play_meaning.specs.declared.operand.Use.TheVariants as role;
-ghost use Rattle.story_code.specs.Emits.{AreEmitted, AreSpelled, IfTooLong, IsOnlyMemory, whole_body};
+ghost use Rattle.story_code.specs.Emits.{AreEmitted, AreSpelled, IfTooLong, IsOnlyMemory, IsUnfit, whole_body};
 ghost use Rattle.story_code.specs.Emitting.{can_say_all, emitted, nothing_from};
+ghost use Rattle.story_code.specs.FaultTexts.{emit_fault_text};
 ghost use Rattle.story_code.specs.Fitting.{BodyFits, ConditionFits, TextFits};
 ghost use Rattle.story_code.specs.ShortLaws.{IsCountedInTwoBytes, IsNumberedFrom, IsShortBody, IsShortCondition, IsShortDescription};
 ghost use Rattle.story_code.specs.SoundlyEmitted.{AreSoundAnywhere, among};
@@ -21,19 +22,40 @@ use object_words::Strings;
 use play_meaning::tree::{Condition, Phrase, Text};
 use play_meaning::{Counts, Instruction};
 use std::alloc::{AllocError, Global};
-use thiserror::Error;
+use std::error::Error;
+use std::fmt;
 use world_meaning::{Listed, TextBytes};
 
 /// Why no codes were emitted.
-#[derive(Clone, Copy, Debug, Drop, PartialEq, Eq, Error)]
+#[derive(Clone, Copy, Debug, Drop, PartialEq, Eq)]
 pub enum EmitFault {
     /// The tree names what isn't there, or takes more than sixty-four operands at once or nine loops; or a code takes more
     /// than 65,535 bytes, or a test's number more than two.
-    #[error("too long")]
     TooLong,
-    #[error("out of memory")]
     Memory,
 }
+
+impl EmitFault {
+    /// What is wrong, in words.
+    pub fn text(self) -> &'static str
+        ensures { result.now ≡ emit_fault_text self }
+    {
+        match self {
+            EmitFault::TooLong => "too long",
+            EmitFault::Memory => "out of memory",
+        }
+    }
+}
+
+impl fmt::Display for EmitFault {
+    ghost output = { λ fault. Some (emit_fault_text fault) };
+
+    fn fmt<W: fmt::Write>(&self, f: &mut fmt::Formatter<W>) -> fmt::Result {
+        f.write_str(self.text())
+    }
+}
+
+impl Error for EmitFault {}
 
 /// The bytes of the code of a rule's body, and behind it those of the tests that it names, which are numbered from `first`
 /// on. Each string goes by its number among `strings`. By what there is in `counts` they are sound codes, whatever number the
@@ -42,7 +64,7 @@ pub enum EmitFault {
 ///
 /// # Errors
 ///
-/// `TooLong` only where the tree doesn't fit or bytes can't say the codes. What at most 500 words say within the limits of the
+/// `TooLong` where the tree doesn't fit, and else only where bytes can't say the codes. What at most 500 words say within the limits of the
 /// language, with at most 32 numbers in an expression, isn't too long, as long as two bytes tell its tests by their numbers.
 /// And `Memory`.
 pub fn body_codes(
@@ -57,6 +79,7 @@ pub fn body_codes(
     ensures sound { IfOk result (λ codes. AreSoundAnywhere counts.now role.Body first (whole_body (number_in strings.now) (body_meant body.now) first 0) codes.items) }
     ensures too_long { IfTooLong result (BodyFits counts.now (number_in strings.now) 0 (body_meant body.now)
         → can_say_all (whole_body (number_in strings.now) (body_meant body.now) first 0) ≡ false) }
+    ensures unfit { (BodyFits counts.now (number_in strings.now) 0 (body_meant body.now) → ⊥) → IsUnfit result }
     ensures short { IsShortBody counts.now (number_in strings.now) (body_meant body.now)
         → IsNumberedFrom first (whole_body (number_in strings.now) (body_meant body.now) first 0) → IsOnlyMemory result }
 {
@@ -75,7 +98,7 @@ pub fn body_codes(
 ///
 /// # Errors
 ///
-/// `TooLong` only where the tree doesn't fit or bytes can't say the codes. What at most 500 words say within the limits of the
+/// `TooLong` where the tree doesn't fit, and else only where bytes can't say the codes. What at most 500 words say within the limits of the
 /// language, with at most 32 numbers in an expression, isn't too long, as long as two bytes tell its tests by their numbers.
 /// And `Memory`.
 pub fn condition_codes(
@@ -89,6 +112,7 @@ pub fn condition_codes(
     ensures sound { IfOk result (λ codes. AreSoundAnywhere counts.now (role.Test 0) first (test_part (condition_meant condition.now) first 0) codes.items) }
     ensures too_long { IfTooLong result (ConditionFits counts.now 0 0 (condition_meant condition.now)
         → can_say_all (test_part (condition_meant condition.now) first 0) ≡ false) }
+    ensures unfit { (ConditionFits counts.now 0 0 (condition_meant condition.now) → ⊥) → IsUnfit result }
     ensures short { IsShortCondition counts.now (condition_meant condition.now) → IsNumberedFrom first (test_part (condition_meant condition.now) first 0) → IsOnlyMemory result }
 {
     told_in_two_bytes(counts);
@@ -106,7 +130,7 @@ pub fn condition_codes(
 ///
 /// # Errors
 ///
-/// `TooLong` only where the tree doesn't fit or bytes can't say the codes. What at most 500 words say within the limits of the
+/// `TooLong` where the tree doesn't fit, and else only where bytes can't say the codes. What at most 500 words say within the limits of the
 /// language, with at most 32 numbers in an expression, isn't too long, as long as two bytes tell its tests by their numbers.
 /// And `Memory`.
 pub fn description_codes(
@@ -121,6 +145,7 @@ pub fn description_codes(
     ensures sound { IfOk result (λ codes. AreSoundAnywhere counts.now role.Describing first (description_part (number_in strings.now) (text_meant text.now) first 0) codes.items) }
     ensures too_long { IfTooLong result (TextFits counts.now role.Describing (number_in strings.now) 0 (text_meant text.now)
         → can_say_all (description_part (number_in strings.now) (text_meant text.now) first 0) ≡ false) }
+    ensures unfit { (TextFits counts.now role.Describing (number_in strings.now) 0 (text_meant text.now) → ⊥) → IsUnfit result }
     ensures short { IsShortDescription counts.now (number_in strings.now) (text_meant text.now)
         → IsNumberedFrom first (description_part (number_in strings.now) (text_meant text.now) first 0) → IsOnlyMemory result }
 {

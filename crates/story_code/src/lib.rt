@@ -42,6 +42,7 @@ mod verifying;
 
 pub use asking::{door_beyond, encloses, holder_by, is_held, is_some_held, room_beyond};
 pub use body::{MOST_WORK, step_plain};
+pub use changing::unless_refused;
 pub use decoding::{first, front};
 pub use describing::description;
 pub use emit::{EmitFault, body_codes, condition_codes, description_codes};

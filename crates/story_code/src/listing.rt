@@ -13,7 +13,7 @@ use std::alloc::Global;
 use world_meaning::{Abandon, ObjNo};
 
 /// How the objects are listed that pass a test, and the loop that it opens.
-#[derive(Clone, Copy, Debug)]
+#[derive(Clone, Copy)]
 pub struct Listing {
     pub naming: Naming,
     pub number: u8,

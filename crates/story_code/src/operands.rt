@@ -8,7 +8,7 @@ use std::marker::Model;
 pub(crate) const MOST_OPERANDS: usize = 64;
 
 /// The operands, the last pushed first.
-#[derive(Debug, Drop)]
+#[derive(Drop)]
 pub struct Operands {
     kept: ArrayVec<i32, MOST_OPERANDS>,
 }

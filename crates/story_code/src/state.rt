@@ -13,7 +13,7 @@ use world_meaning::ObjNo;
 
 /// Where a run of a code stands: the code's number, the place in it, counted in bytes, the operands, the objects of the
 /// open loops and the work done.
-#[derive(Debug, Drop)]
+#[derive(Drop)]
 pub struct RunState {
     pub(crate) code: u16,
     pub(crate) place: usize,

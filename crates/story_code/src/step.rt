@@ -3,7 +3,7 @@
 use play_meaning::ActionNow;
 
 /// What a step of a body comes to.
-#[derive(Clone, Copy, Debug, PartialEq, Eq)]
+#[derive(Clone, Copy, Debug)]
 pub enum Step {
     /// The run goes on.
     GoesOn,

@@ -9,7 +9,7 @@ use world_meaning::ObjNo;
 pub(crate) const MOST_LOOPS: usize = 9;
 
 /// The objects of the open loops, the outermost first; none before a loop's first turn.
-#[derive(Debug, Drop)]
+#[derive(Drop)]
 pub struct Turning {
     kept: ArrayVec<Option<ObjNo>, MOST_LOOPS>,
 }

@@ -7,7 +7,7 @@ use crate::verifying::verify;
 use std::marker::Model;
 
 /// Bytes that are a sound code, and what they were judged by.
-#[derive(Debug, Drop)]
+#[derive(Drop)]
 pub struct Verified {
     pub(crate) bytes: Vec<u8>,
     sizes: Sizes,

@@ -4,7 +4,7 @@ ghost use Rattle.world_meaning.specs.declared.fault.Fault.{Fault};
 ghost use Rattle.world_meaning.specs.declared.fault.FaultCode.TheVariants.{Memory};
 ghost use Rattle.world_meaning.specs.declared.tale.Tale.{Tale};
 ghost use Rattle.story_format.specs.Contents.{Contents};
-ghost use Rattle.story_format.specs.Holding.{IsHeld};
+ghost use Rattle.story_format.specs.Holding.{AreOf, IsHeld};
 ghost use Rattle.story_file.specs.ActionNumbers.{NounsAgree, StandardNamesAgree};
 ghost use Rattle.story_file.specs.Compilations.{IsCompiled, IsRefused, Means};
 
@@ -20,9 +20,10 @@ pub fn one_tale()
     one_resolution();
 }
 
-/// A story file holds each tale that a source means: `write` may be called with it.
+/// A story file holds each tale that a source means, and what is said of it is of that tale: `write` may be called with them.
 pub fn meant_tales_are_held()
-    ensures { (source : List ℕ) (tale : Tale) (said : Contents) → Means source tale said → IsHeld tale }
+    ensures held { (source : List ℕ) (tale : Tale) (said : Contents) → Means source tale said → IsHeld tale }
+    ensures of_tale { (source : List ℕ) (tale : Tale) (said : Contents) → Means source tale said → AreOf tale said }
 {}
 
 /// Rules number the actions as play and table 8 do: each standard one by its name, and each, the author's too, by how many nouns

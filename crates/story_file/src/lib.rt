@@ -14,5 +14,6 @@ pub use i7_kinds::{TaleSaid, tale_of};
 pub use laws::{
     actions_are_numbered_alike, meant_tales_are_held, never_compiled_and_refused, one_tale,
 };
+pub use meaning::{Meant, tale_meant};
 pub use story_format::{LoadFault, Story, load, write};
 pub use worked_rows::{empty_source_is_refused, two_rooms_are_played};

@@ -12,7 +12,7 @@ use Rattle.story_format.specs.declared.fault.LoadFault.TheVariants.{BadMagic, Ba
 use Rattle.story_format.specs.declared.tables.Tables.{Tables}
 use Rattle.story_format.specs.Formats.{IsBytes, behind, number}
 use Rattle.story_format.specs.FormatLaws.{number16_lawful, IsBytes-drop}
-use Rattle.story_format.specs.Reading.{Read, whole, body_at, body_read, is_right_file, tables_in, tables_read, FaultGiven}
+use Rattle.story_format.specs.Reading.{Read, whole, body_at, body_read, is_right_file, tables_in, tables_read, FailBy, FaultGiven}
 use Rattle.story_format.specs.Refusals.{Are, Holds, IsRefused, is_version}
 use Rattle.story_format.specs.Layout.{tables_layout, version_of}
 use Rattle.story_format.specs.Checks.{are_right}
@@ -245,6 +245,16 @@ module _ (bytes : List ℕ) (version : ℕ) (t : Tables) (fits : IsBytes bytes) 
 
   pub memory_fault : IsRefused Memory bytes
   memory_fault = (version, t, tables_stand bytes version t fits e)
+
+  pub failed_by : (fault : LoadFault) → FailBy fault version t → IsRefused fault bytes
+  failed_by BadMagic h = absurd h
+  failed_by BadVersion h = absurd h
+  failed_by Truncated h = absurd h
+  failed_by TooLong h = absurd h
+  failed_by BadTable h = table_fault h
+  failed_by BadCode (right, unsound) = code_fault right unsound
+  failed_by BadOrder (right, sound, disordered) = order_fault right sound disordered
+  failed_by Memory h = memory_fault
 
   pub story_there : is_right_file version t ≡ true → AreSound t → are_ordered t ≡ true → Spells bytes t
   story_there right sound ordered =

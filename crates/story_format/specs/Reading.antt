@@ -1,5 +1,5 @@
 -- Reading a story's tables from left to right, with the first fault that is met.
-use Rattle.std.specs.Prelude.{◌≡◌, ℕ, ◌==◌, Bool, ◌&&◌, List, length, take, drop, Option, Some, None, Result, Ok, Err, if◌then◌else◌}
+use Rattle.std.specs.Prelude.{◌≡◌, ℕ, ◌==◌, Bool, true, false, ◌&&◌, List, length, take, drop, ⊤, Option, Some, None, Result, Ok, Err, if◌then◌else◌}
 use Rattle.std.specs.Str.{bytes_eq}
 use Rattle.std.specs.Int.{w16}
 use Rattle.story_format.specs.declared.fault.LoadFault.{LoadFault}
@@ -9,7 +9,8 @@ use Rattle.story_format.specs.Formats.{number}
 use Rattle.story_format.specs.Checks.{are_right}
 use Rattle.story_format.specs.Layout.{tables_layout, version_of}
 use Rattle.story_format.specs.Refusals.{is_version}
-use Rattle.story_format.specs.Spells.{magic}
+use Rattle.story_format.specs.Soundness.{AreSound}
+use Rattle.story_format.specs.Spells.{are_ordered, magic}
 
 -- tables, with the version that stands before them; nothing may stand behind them
 abbrev pub Read : Type 0
@@ -52,3 +53,15 @@ FaultGiven Memory read = (told : ℕ × Tables) × (read ≡ Ok told)
 abbrev pub Gives : Read → Read → Type 0
 Gives (Ok told) read = read ≡ Ok told
 Gives (Err fault) read = FaultGiven fault read
+
+-- tables of this version are a story's
+abbrev pub AreAStorys : ℕ → Tables → Type 0
+AreAStorys version t = (is_right_file version t ≡ true) × AreSound t × (are_ordered t ≡ true)
+
+-- they aren't, for this fault, what is told by tables before what is told by codes; or memory was refused
+abbrev pub FailBy : LoadFault → ℕ → Tables → Type 0
+FailBy BadTable version t = is_right_file version t ≡ false
+FailBy BadCode version t = (is_right_file version t ≡ true) × (AreSound t → ⊥)
+FailBy BadOrder version t = (is_right_file version t ≡ true) × AreSound t × (are_ordered t ≡ false)
+FailBy Memory version t = ⊤
+FailBy _ version t = ⊥

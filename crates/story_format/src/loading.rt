@@ -2,8 +2,9 @@
 //! taken; then they are read and tested.
 ghost use Rattle.std.specs.Prelude.{◌≡◌, IfOk, IfErr};
 ghost use Rattle.std.specs.Result.{MatchResult};
+ghost use Rattle.story_format.specs.Codes.{AreCodesOf};
 ghost use Rattle.story_format.specs.Layout.{tables_layout};
-ghost use Rattle.story_format.specs.Reading.{Gives, is_right_file, tables_read, whole};
+ghost use Rattle.story_format.specs.Reading.{AreAStorys, FailBy, Gives, is_right_file, tables_read, whole};
 ghost use Rattle.story_format.specs.Refusals.{IsRefused, is_version};
 ghost use Rattle.story_format.specs.Spells.{Spells};
 ghost use Rattle.story_format.specs.declared.fault.LoadFault.TheVariants.{Memory};
@@ -19,6 +20,7 @@ use crate::tables::Tables;
 use crate::value_tables::{FIRST_VERSION, SECOND_VERSION};
 use crate::writing::MAGIC;
 use std::alloc::{AllocError, Global};
+use story_code::Verified;
 
 fn is_version(version: u16) -> bool
     ensures { result ≡ is_version version }
@@ -70,6 +72,23 @@ fn is_right_file(alloc: Global, version: u16, tables: &Tables) -> Result<bool, A
     Ok(version == tables.version() && are_right(alloc, tables)?)
 }
 
+/// The codes of the tables of this version, if these are a story's.
+fn codes_in(alloc: Global, version: u16, tables: &Tables) -> Result<Vec<Verified>, LoadFault>
+    ensures codes { IfOk result (λ codes. AreCodesOf tables.now codes.items × AreAStorys version tables.now) }
+    ensures refused { IfErr result (λ fault. FailBy fault version tables.now) }
+{
+    if !is_right_file(alloc, version, tables)? {
+        return Err(LoadFault::BadTable);
+    }
+    let Some(codes) = codes_of(alloc, tables)? else {
+        return Err(LoadFault::BadCode);
+    };
+    if !are_ordered(alloc, tables)? {
+        return Err(LoadFault::BadOrder);
+    }
+    Ok(codes)
+}
+
 /// The story that the bytes spell. What the counts tell is told before memory is taken.
 pub fn load(alloc: Global, bytes: &[u8]) -> Result<Story, LoadFault>
     // What is loaded is the story that the bytes spell.
@@ -82,17 +101,11 @@ pub fn load(alloc: Global, bytes: &[u8]) -> Result<Story, LoadFault>
     ensures refused { IfErr result (λ fault. IsRefused fault bytes.now) }
 {
     let (version, tables) = tables_read(alloc, bytes)?;
-    if !is_right_file(alloc, version, &tables)? {
-        return Err(LoadFault::BadTable);
-    }
-    match codes_of(alloc, &tables)? {
-        None => Err(LoadFault::BadCode),
-        Some(codes) => {
-            if are_ordered(alloc, &tables)? {
-                Ok(Story::new(tables, codes))
-            } else {
-                Err(LoadFault::BadOrder)
-            }
+    match codes_in(alloc, version, &tables) {
+        Ok(codes) => Ok(Story::new(tables, codes)),
+        Err(fault) => {
+            drop(tables);
+            Err(fault)
         }
     }
 }

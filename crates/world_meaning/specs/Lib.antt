@@ -1,3 +1,4 @@
+pub mod Abandoned
 pub mod Chains
 pub mod Declarations
 pub mod Directions

@@ -1,5 +1,6 @@
 -- The language's own directions, kinds and either-or properties, row by row, as docs/language.md lists them.
-use Rattle.std.specs.Prelude.{ℕ, List, [], ◌∷◌, None, Option, Some, codes}
+use Rattle.std.specs.Prelude.{ℕ, Bool, true, not, ◌&&◌, List, [], ◌∷◌, bytes_eq, None, Option, Some, codes}
+use Rattle.std.specs.List.{flat_map, list_any}
 use Rattle.world_meaning.specs.declared.direction.Direction.{Direction}
 use Rattle.world_meaning.specs.declared.direction.Direction.TheVariants.{North, Northeast, Northwest, South, Southeast, Southwest, East, West, Up, Down, Inside, Outside}
 
@@ -10,6 +11,15 @@ written_directions =
     ∷ (codes "south", (codes "s", North)) ∷ (codes "southeast", (codes "se", Northwest)) ∷ (codes "southwest", (codes "sw", Northeast))
     ∷ (codes "east", (codes "e", West)) ∷ (codes "west", (codes "w", East)) ∷ (codes "up", (codes "u", Down)) ∷ (codes "down", (codes "d", Up))
     ∷ (codes "inside", (codes "in", Outside)) ∷ (codes "outside", (codes "out", Inside)) ∷ []
+
+-- the words for directions
+abbrev pub written_words : List (List ℕ × (List ℕ × Direction)) → List (List ℕ)
+written_words rows = flat_map (λ row. row.0 ∷ row.1.0 ∷ []) rows
+
+-- no two are one
+abbrev pub are_distinct : List (List ℕ) → Bool
+are_distinct [] = true
+are_distinct (word ∷ words) = not (list_any (bytes_eq word) words) && are_distinct words
 
 -- a kind: its name and the number of the kind above it
 abbrev pub written_kinds : List (List ℕ × Option ℕ)

@@ -6,21 +6,21 @@ use crate::needs::Needs;
 use crate::text::TextBytes;
 
 /// A property: the kinds that it is given to, rising.
-#[derive(Debug, Drop)]
+#[derive(Drop)]
 pub struct Granted {
     pub kinds: Listed<u8>,
 }
 
 /// A kind of value (*Writing with Inform*, 4.9): the names of its values, in order, and the kinds of which each object has
 /// one of them.
-#[derive(Debug, Drop)]
+#[derive(Drop)]
 pub struct ValueKind {
     pub names: Listed<TextBytes>,
     pub given: Granted,
 }
 
 /// What a source declares besides its objects.
-#[derive(Debug, Drop)]
+#[derive(Drop)]
 pub struct Declared {
     /// Of each kind, by number, the kind above it; the built-in kinds stand first.
     pub kinds: Listed<Option<KindNo>>,

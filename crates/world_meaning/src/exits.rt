@@ -2,7 +2,7 @@
 use crate::ObjNo;
 
 /// What lies in one direction: the room beyond, and the door on the way.
-#[derive(Clone, Copy, Debug, PartialEq, Eq)]
+#[derive(Clone, Copy, PartialEq, Eq)]
 pub struct Way {
     pub room: Option<ObjNo>,
     pub door: Option<ObjNo>,
@@ -17,7 +17,7 @@ impl Way {
 }
 
 /// A room's ways, north first, in the directions' order. An object that is no room has none.
-#[derive(Clone, Copy, Debug, PartialEq, Eq)]
+#[derive(Clone, Copy, PartialEq, Eq)]
 pub struct Exits {
     pub ways: [Way; 12],
 }

@@ -1,7 +1,7 @@
 //! What actions ask for (*Writing with Inform*, chapter 12).
 
 /// What an action asks of a noun.
-#[derive(Clone, Copy, Debug, PartialEq, Eq)]
+#[derive(Clone, Copy, PartialEq, Eq)]
 pub enum Slot {
     /// The action has no such noun.
     Absent,
@@ -14,7 +14,7 @@ pub enum Slot {
 }
 
 /// What an action asks for.
-#[derive(Clone, Copy, Debug, PartialEq, Eq)]
+#[derive(Clone, Copy, PartialEq, Eq)]
 pub struct Needs {
     pub noun: Slot,
     pub second: Slot,

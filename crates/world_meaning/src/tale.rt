@@ -2,7 +2,7 @@
 use crate::{Article, Declared, Exits, KindNo, Listed, Place, TextBytes};
 
 /// An object as the source's sentences have it.
-#[derive(Debug, Drop)]
+#[derive(Drop)]
 pub struct Object {
     pub kind: KindNo,
     /// The name as printed, its words parted by one space.
@@ -21,7 +21,7 @@ pub struct Object {
 }
 
 /// What a source means.
-#[derive(Debug, Drop)]
+#[derive(Drop)]
 pub struct Tale {
     pub declared: Declared,
     /// The objects, by number.

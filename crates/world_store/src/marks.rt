@@ -6,7 +6,7 @@ use crate::World;
 use std::marker::Model;
 
 /// A place in the log of a world: so many changes were made before it.
-#[derive(Clone, Copy, Debug, PartialEq, Eq)]
+#[derive(Clone, Copy, PartialEq, Eq)]
 pub struct Mark(usize);
 
 impl Model for Mark {

@@ -14,7 +14,7 @@ use story_code::{
 use world_meaning::Abandon;
 
 /// What a body came to.
-#[derive(Clone, Copy, Debug, PartialEq, Eq)]
+#[derive(Clone, Copy, Debug)]
 pub enum Ended {
     /// It left off so, or asked for this.
     Left(Step),

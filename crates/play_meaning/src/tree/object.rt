@@ -22,14 +22,14 @@ pub enum Referent {
 }
 
 /// An either-or property by its first name or its second, as `open` and `closed`.
-#[derive(Clone, Copy, Debug, PartialEq, Eq)]
+#[derive(Clone, Copy, Debug)]
 pub enum Side {
     First,
     Second,
 }
 
 /// What an adjective says.
-#[derive(Clone, Copy, Debug, PartialEq, Eq)]
+#[derive(Clone, Copy, Debug)]
 pub enum Quality {
     /// An either-or property by its number.
     Is(u8, Side),
@@ -40,7 +40,7 @@ pub enum Quality {
 }
 
 /// An adjective, perhaps behind `not`.
-#[derive(Clone, Copy, Debug, PartialEq, Eq)]
+#[derive(Clone, Copy, Debug)]
 pub struct Adjective {
     pub quality: Quality,
     pub denied: bool,

@@ -7,7 +7,7 @@ use crate::tree::object::Adjective;
 use world_meaning::{KindNo, Listed, ObjNo};
 
 /// What a rule asks of a noun, or of the place.
-#[derive(Debug, Drop)]
+#[derive(Drop)]
 pub enum Aspect {
     Anything,
     /// This object.
@@ -17,7 +17,7 @@ pub enum Aspect {
 }
 
 /// What a rule is about, its condition aside: nothing that isn't asked for matters.
-#[derive(Debug, Drop)]
+#[derive(Drop)]
 pub struct Pattern {
     pub action: Option<ActNo>,
     pub noun: Aspect,
@@ -43,7 +43,7 @@ impl Pattern {
 }
 
 /// Where sentences list a rule, by the latest of them.
-#[derive(Clone, Copy, Debug, PartialEq, Eq)]
+#[derive(Clone, Copy)]
 pub enum Listing {
     /// No sentence lists it: it stands where its pattern puts it.
     InOrder,

@@ -4,7 +4,7 @@ use crate::tree::pattern::{Listing, Pattern};
 use crate::tree::phrase::Phrase;
 
 /// What the head of a rule says, and where sentences list it.
-#[derive(Debug, Drop)]
+#[derive(Drop)]
 pub struct RuleHead {
     /// The rulebook, by its number.
     pub book: u16,
@@ -14,7 +14,7 @@ pub struct RuleHead {
 }
 
 /// A rule whose words are resolved.
-#[derive(Debug, Drop)]
+#[derive(Drop)]
 pub struct MeantRule {
     pub head: RuleHead,
     pub body: Vec<Phrase>,

@@ -11,7 +11,7 @@ use std::marker::Model;
 use world_meaning::Listed;
 
 /// The code so far, the tests that it names, and whether bytes can say them. Where they can't, nothing more is kept.
-#[derive(Debug, Drop)]
+#[derive(Drop)]
 pub(crate) struct Output {
     /// The number of the first test.
     first: u16,

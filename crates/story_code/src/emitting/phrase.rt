@@ -19,7 +19,7 @@ use std::alloc::{AllocError, Global};
 
 /// The jumps of a branch, by their indices: where its condition doesn't hold, past its phrases to the next place, and from
 /// the last of its phrases past all that is left of the choice.
-#[derive(Clone, Copy, Debug, PartialEq, Eq)]
+#[derive(Clone, Copy)]
 pub(crate) struct Leap {
     past: usize,
     next: u16,

@@ -5,7 +5,7 @@ ghost use Rattle.story_code.specs.Emitting.{named};
 use play_meaning::{Instruction, Naming};
 
 /// An instruction that names a test, but for the test's number. Loops go by their numbers.
-#[derive(Clone, Copy, Debug)]
+#[derive(Clone, Copy)]
 pub(crate) enum Tested {
     Count(u8),
     Names(Naming, u8),

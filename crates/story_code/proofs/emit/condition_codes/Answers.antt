@@ -35,3 +35,9 @@ pub returns-clause-short : goal.returns-clause-short
 returns-clause-short c = λ short numbered.
     IfErr-weaker c.finish.result _ _ (λ fault told. only_memory fault _ told ((conditions_fit c.args.counts.now c.args.first (condition_meant c.args.condition.now) c.told_in_two_bytes.ensures short).1.said numbered))
     (c.finish.ensures.too_long c.args.first (test_part (condition_meant c.args.condition.now)) c.in-Ok.ensures)
+
+pub returns-clause-unfit : goal.returns-clause-unfit
+returns-clause-unfit c = λ unfit. absurd (unfit ((c.condition_fits.ensures c.args.counts.now.own c.args.counts.now.codes).0 c.if-not-condition_fits.false))
+
+pub returns-in_default-clause-unfit : goal.returns-in_default-clause-unfit
+returns-in_default-clause-unfit c = λ unfit. absurd (unfit ((c.condition_fits.ensures c.args.counts.now.own c.args.counts.now.codes).0 c.if-not-condition_fits.false))

@@ -36,3 +36,9 @@ pub returns-clause-short : goal.returns-clause-short
 returns-clause-short c = λ short numbered.
     IfErr-weaker c.finish.result _ _ (λ fault told. only_memory fault _ told ((descriptions_fit c.args.counts.now (number_in c.args.strings.now) c.args.first (text_meant c.args.text.now) c.told_in_two_bytes.ensures short).1.said numbered))
     (c.finish.ensures.too_long c.args.first (description_part (number_in c.args.strings.now) (text_meant c.args.text.now)) c.in-Ok.ensures)
+
+pub returns-clause-unfit : goal.returns-clause-unfit
+returns-clause-unfit c = λ unfit. absurd (unfit ((c.description_fits.ensures c.args.counts.now.own c.args.counts.now.codes).0 c.if-not-description_fits.false))
+
+pub returns-in_default-clause-unfit : goal.returns-in_default-clause-unfit
+returns-in_default-clause-unfit c = λ unfit. absurd (unfit ((c.description_fits.ensures c.args.counts.now.own c.args.counts.now.codes).0 c.if-not-description_fits.false))
