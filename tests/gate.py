@@ -1,5 +1,5 @@
 #!/usr/bin/env python3
-"""The gate: each wrong body can be applied; `rt ci` proves everything from nothing, and passes the tests and the programs; over
+"""The gate: each wrong body can be applied; `rt ci` (by tools/ci) proves everything from nothing, and passes the tests and the programs; over
 what it left the wrong bodies are refused, a function at a time; and each script of tests/ passes over the built program. It ends with
 what that took, by crate and sort.
 
@@ -79,7 +79,7 @@ def proved():
     how = {"cwd": kit.top, "env": {"RT_JOBS": str(len(os.sched_getaffinity(0))), **os.environ}, "stdin": subprocess.DEVNULL}
     last = ""
     with open(kit.kept / "ci.log", "w") as log:
-        with subprocess.Popen(["rt", "ci"], stdout=subprocess.PIPE, stderr=subprocess.STDOUT, text=True, errors="replace", **how) as command:
+        with subprocess.Popen([kit.top / "tools" / "ci"], stdout=subprocess.PIPE, stderr=subprocess.STDOUT, text=True, errors="replace", **how) as command:
             for last in command.stdout:
                 log.write(last)
                 # one line a function would be thousands
@@ -112,7 +112,6 @@ def main():
     edits = wrong_bodies.all_edits()
     if not all([it.stands() for it in edits]):
         sys.exit(wrong_bodies.main(["--stand"]))
-    edits = wrong_bodies.to_be_tried(edits)
     watch = Watch()
     well, passed = proved()
     seconds, of_proofs = watch.end(), used_so_far()

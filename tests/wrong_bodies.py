@@ -1,16 +1,15 @@
 #!/usr/bin/env python3
 """Tries the wrong bodies: of each the prover must refuse the function that it names.
 
-Use: tests/wrong_bodies.py [CRATE | CRATE/NAME ..]   those of all crates, of some, or some alone; without words, not those of the crates
-                                                     that tests/wrong_bodies/untried names
+Use: tests/wrong_bodies.py [CRATE | CRATE/NAME ..]   those of all crates, of some, or some alone
      tests/wrong_bodies.py --stand                   only sees that each can still be applied
 
 A wrong body is a file tests/wrong_bodies/CRATE/NAME.edit: a line `proof: ` with the function whose proof must fail, as a check prints
 it but for the crate; then `file: `, and pairs of `old: `, which stands once in that file, and `new: `.
 
-They are tried over the libraries that `rt ci` or `./i7story prove` left, a crate at a time on each processor. A library holds what was proved
-of it, module by module: in a copy of the crate a check begins with that, so that little but the named functions is proved. These must be
-proved as they stand, and none with its edit. Edits inside different functions are tried in one check, since a proof reads no other
+They are tried over the libraries that `tools/ci` or `./i7story prove` left, a crate at a time on each processor. Such a library holds what was
+proved of it, module by module: in a copy of the crate a check begins with that, so that little but the named functions is proved. These must
+be proved as they stand, and none with its edit. Edits inside different functions are tried in one check, since a proof reads no other
 function's body; an edit of a function that calls another with an edit is tried once more, behind that."""
 import collections
 import concurrent.futures
@@ -145,12 +144,15 @@ def waits(said, edit, batch):
     return len(batch) > 1 and bool(CALLS.match(verdict)) and not lacks_own_goal(verdict, said, edit.proof, edit.crate)
 
 
-def extract(library, to):
-    """Writes what a built library holds of its own proofs, module by module, where a check looks for what it has checked before."""
+def modules_in(library):
+    """What a built library holds of its own proofs, by the names of the modules; nothing where it holds its statements alone."""
     rows = [json.loads(line) for line in (library / "checked.json").read_text().splitlines()]
     data = (library / "checked.a").read_bytes()
-    modules = {name: data[place : place + size] for name, place, size in rows if "/" not in name}
-    # each module tells by what kernel it was checked
+    return {name: data[place : place + size] for name, place, size in rows if "/" not in name}
+
+
+def write_proved(modules, to):
+    """Writes modules where a check looks for what an earlier one proved: in a folder named by the kernel, which each of them names."""
     kernel = re.search(rb"(?m)^--@ kernel (\S+)$", next(iter(modules.values())))[1].decode()
     folder = to / kernel.replace("/", "_")
     folder.mkdir(parents=True)
@@ -166,7 +168,12 @@ class Copy:
         for part in ("src", "specs", "proofs"):
             if (kit.top / "crates" / crate / part).is_dir():
                 shutil.copytree(kit.top / "crates" / crate / part, room / part)
-        extract(pathlib.Path(kit.crates()[crate].rlib) / "toolchain", room / "proved")
+        modules = modules_in(pathlib.Path(kit.crates()[crate].rlib) / "toolchain")
+        if modules:
+            write_proved(modules, room / "proved")
+        else:
+            # as a plain `rt ci` leaves it: proved once more
+            _, self.seconds = kit.check(crate, room, ["--incremental", room / "proved"])
 
     def checked(self, functions):
         """What a check of these functions says, over what was proved of the crate as it stands."""
@@ -223,15 +230,6 @@ def all_edits():
     return [Edit(path) for path in sorted(here.glob("wrong_bodies/*/*.edit"))]
 
 
-def to_be_tried(edits):
-    """The edits but for those of crates where they haven't been tried over what the library holds yet, which it tells."""
-    untried = (here / "wrong_bodies" / "untried").read_text().split()
-    left = [it for it in edits if it.crate in untried]
-    if left:
-        print(f"{len(left)} wrong bodies are only seen to apply, those of {' '.join(untried)}", flush=True)
-    return [it for it in edits if it.crate not in untried]
-
-
 def try_all(edits):
     """The edits that weren't refused, and the processor seconds of each crate; both are told as they are found."""
     by_crate, wrong, seconds = collections.defaultdict(list), {}, {}
@@ -259,7 +257,7 @@ def main(words):
     if words == ["--stand"]:
         print(f"{len(edits) - len(fallen)} passed, {len(fallen)} failed")
         return 1 if fallen else 0
-    named = [it for it in edits if it.crate in words or it.name in words] if words else to_be_tried(edits)
+    named = [it for it in edits if not words or it.crate in words or it.name in words]
     chosen = [it for it in named if it not in fallen]
     wrong, seconds = try_all(chosen)
     print(f"{sum(seconds.values()) / 60:.1f} processor minutes")

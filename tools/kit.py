@@ -2,6 +2,7 @@
 check a copy of a crate."""
 import functools
 import hashlib
+import importlib.machinery
 import importlib.util
 import os
 import pathlib
@@ -28,6 +29,14 @@ def library():
     sys.modules["rtlib"] = made
     spec.loader.exec_module(made)
     made.guarded()
+    return made
+
+
+def command():
+    """The command rt, as a module."""
+    loader = importlib.machinery.SourceFileLoader("rt", str(home() / "bin" / "rt"))
+    made = importlib.util.module_from_spec(importlib.util.spec_from_loader("rt", loader))
+    loader.exec_module(made)
     return made
 
 
