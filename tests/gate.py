@@ -73,10 +73,9 @@ class Watch:
 
 
 def proved():
-    """Whether `rt ci` passes, and how many it says have passed. It runs as many checks at once as there are processors, since it guesses
-    at more memory than they take; all that it says is kept in out/ci.log."""
+    """Whether `rt ci` passes, and how many it says have passed; all that it says is kept in out/ci.log."""
     kit.kept.mkdir(exist_ok=True)
-    how = {"cwd": kit.top, "env": {"RT_JOBS": str(len(os.sched_getaffinity(0))), **os.environ}, "stdin": subprocess.DEVNULL}
+    how = {"cwd": kit.top, "stdin": subprocess.DEVNULL}
     last = ""
     with open(kit.kept / "ci.log", "w") as log:
         with subprocess.Popen([kit.top / "tools" / "ci"], stdout=subprocess.PIPE, stderr=subprocess.STDOUT, text=True, errors="replace", **how) as command:

@@ -2,6 +2,7 @@
 //! counted, and what is compared with what is told by hand. The first word is a story file, or `-` for the furnished story; each word
 //! behind it is a call, and behind `--rows` comes a file of rows, a line each.
 mod answer;
+mod buckets;
 mod calls;
 mod changes;
 mod names;

@@ -4,8 +4,8 @@ use Rattle.std.specs.Prelude.{is_some}
 use Rattle.std.specs.Str.Lines.{lines}
 use Rattle.play_meaning.specs.Games.{Game}
 use Rattle.play_meaning.specs.Sessions.{Answer, State, opened}
-use Rattle.play_meaning.specs.Transcripts.{Exchange, IsPlay, behind, ended_at_end, exchanges, told_out}
-use Rattle.story_player.specs.Runs.{AreAnswered, AreWholeLines, BrokeOff, IsFront, Played, Streams, most_input}
+use Rattle.play_meaning.specs.Transcripts.{Exchange, IsPlay, behind, ended_at_end, exchanges, told, told_out}
+use Rattle.story_player.specs.Runs.{AreAnswered, AreWholeLines, BrokeOff, IsFront, IsTimely, Played, Streams, asked, most_input}
 use Rattle.story_player.specs.declared.fault.RunFault.{RunFault}
 use Rattle.world_meaning.specs.declared.session.Ending.{Ending}
 use Rattle.action_stages.specs.Alike.{ArePlayedAlike}
@@ -73,6 +73,13 @@ module _ (g h : Game) (alike : ArePlayedAlike g h) where
     begins = λ other. subst (λ (them : List Exchange). IsFront (opening ++ told_out echo s them) run.written) (same_session run.refusals s (lines run.whole)) (run.begins other);
     going = run.going;
     typing = run.typing;
+    timely = record {
+      first = run.timely.first;
+      last = run.timely.last;
+      parts = run.timely.parts;
+      one = run.timely.one;
+      told_first = λ some. subst (λ (them : List Exchange). IsFront (opening ++ (told echo them ++ asked run.timely.last)) run.written) (same_session run.refusals s run.timely.first) (run.timely.told_first some);
+    };
   }
 
   pub game_alike : (echo : Bool) (before after : Streams) (ending : Ending) → PlayedGame g echo before after ending → PlayedGame h echo before after ending

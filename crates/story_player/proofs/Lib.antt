@@ -12,6 +12,7 @@ pub mod PlayedLines
 pub mod Readings
 pub mod RunLemmas
 pub mod Tellings
+pub mod Timely
 pub mod Transcripts
 pub mod TypedLines
 pub mod Writes

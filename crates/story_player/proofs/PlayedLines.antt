@@ -1,6 +1,6 @@
 -- A line that was played, from what was typed and what was answered.
 use Rattle.std.proofs.Common.{◌≡◌, ℕ, ◌<◌, Bool, true, false, inl, inr, List, [], ◌∷◌, ◌++◌, length, refl, ap, sym, ◌∙◌, subst, arith, append_assoc}
-use Rattle.std.specs.Prelude.{Option, None, Some, if◌then◌else◌}
+use Rattle.std.specs.Prelude.{Option, None, Some, suc, if◌then◌else◌}
 use Rattle.std.specs.Io.KnownBytes.{Appends, Consumes, IsAtEnd}
 use Rattle.std.specs.Str.Lines.{lines, strip_carriage_return}
 use Rattle.std.proofs.lemmas.Bool.{eqb-true}
@@ -20,6 +20,7 @@ use Rattle.story_player.proofs.Fronts.{front-append, front-behind, front_first}
 use Rattle.story_player.proofs.LineLemmas.{lines-last, lines-line}
 use Rattle.story_player.proofs.LetGo.{parts_typed}
 use Rattle.story_player.proofs.Tellings.{part_last, part_told, state_last, state_told}
+use Rattle.story_player.proofs.Timely.{few_past, lines-few, lines-past, nothing_read, one_read}
 use Rattle.story_player.proofs.Transcripts.{behind-line, exchanges-line, played-line, played-none}
 use Rattle.story_player.proofs.TypedLines.{shown_nothing, strip_behind}
 use Rattle.story_player.proofs.Writes.{appends-more, front-more}
@@ -180,6 +181,7 @@ cut_at_prompt g echo limit unread held now state going none broke = record {
   going = λ other. absurd (other refl);
   typing = λ some. going;
   full = λ wrong. absurd cc;
+  timely = nothing_read g echo [] [] state broke.written;
 }
 
 -- typing the line broke off
@@ -206,6 +208,8 @@ cut_in_line fault g echo limit unread rest held a now state going prompted broke
   going = λ other. going;
   typing = λ some. going;
   full = broke.full;
+  timely = one_read g echo [] state (broke.typed ++ broke.past) broke.written
+      (lines-past broke.typed broke.past broke.unbroken (few_past fault broke.past (length (broke.typed ++ broke.past) ≡ suc limit) broke.within broke.full));
 }
 
 -- what a line gives couldn't be written whole
@@ -246,6 +250,7 @@ cut_in_answer g echo limit left unread rest held a b now state to gone kept goin
       going = λ other. absurd (other refl);
       typing = λ some. absurd (omega (arith, some));
       full = λ wrong. absurd cc;
+      timely = one_read g echo (told.refused ∷ []) state (line ++ 10 ∷ []) wrote.written (omega (arith, ap length one));
     }
 
 -- what the last line gives couldn't
@@ -280,4 +285,5 @@ cut_in_last g echo limit left unread rest held a b now state to gone kept going 
       going = λ other. absurd (other refl);
       typing = λ some. absurd (omega (arith, some));
       full = λ wrong. absurd cc;
+      timely = one_read g echo last.refusals state line wrote.written (lines-few line typing.unbroken);
     }

@@ -15,6 +15,7 @@ use Rattle.story_player.specs.declared.fault.RunFault.{RunFault}
 use Rattle.story_player.specs.declared.fault.RunFault.TheVariants.{Write}
 use Rattle.story_player.proofs.Fronts.{front-append, front-behind}
 use Rattle.story_player.proofs.LineLemmas.{lines-line}
+use Rattle.story_player.proofs.Timely.{nothing_read, timely_behind}
 use Rattle.story_player.proofs.Transcripts.{behind-append, behind_lines-append, exchange, exchanges-append, exchanges-line, exchanges-over, line_part, played-append, told-append}
 use Rattle.story_player.proofs.Writes.{appends-more, consumes-more}
 
@@ -135,6 +136,7 @@ cut_in_opening g echo opening limit unread held now from none broke = record {
   going = λ other. absurd (other refl);
   typing = λ some. absurd (omega (arith, some));
   full = λ wrong. absurd cc;
+  timely = nothing_read g echo opening [] from broke.written;
 }
 
 -- whole lines, or the last line of an input that has ended, behind whole lines
@@ -179,6 +181,7 @@ cut_so_far fault g echo opening limit left unread a rest held b now from state t
       going = broke.going;
       typing = broke.typing;
       full = λ same. ((broke.full same).0, omega (arith, (broke.full same).1, sofar.counts, length-append sofar.read broke.read));
+      timely = timely_behind g echo opening sofar.refusals broke.refusals from state sofar.answered sofar.read broke.read broke.written sofar.told_of sofar.state all broke.timely;
     }
 
 pub lines_read : (g : Game) (echo : Bool) (opening : List ℕ) (limit left : ℕ) (unread rest held now : Option (List ℕ)) (from to : State) (sofar : RunSoFar g echo opening limit left (streams_of unread held) (streams_of rest now) from to) → lines sofar.read ≡ sofar.answered

@@ -5,7 +5,8 @@ use Rattle.std.specs.Io.KnownBytes.{Appends, Consumes, IsAtEnd}
 use Rattle.std.specs.Str.Lines.{lines}
 use Rattle.play_meaning.specs.Games.{Game}
 use Rattle.play_meaning.specs.Sessions.{State}
-use Rattle.play_meaning.specs.Transcripts.{IsPlay, behind_lines, exchanges, played}
+use Rattle.play_meaning.specs.Transcripts.{IsPlay, behind_lines, exchanges, played, told}
+use Rattle.world_meaning.specs.Texts.{prompt}
 use Rattle.story_player.specs.Watches.{watched_inner}
 use Rattle.story_player.specs.declared.fault.RunFault.{RunFault}
 use Rattle.story_player.specs.declared.fault.RunFault.TheVariants.{Write, InputTooLong}
@@ -63,6 +64,20 @@ pub record Played (g : Game) (echo : Bool) (before after : Streams) (from last :
 abbrev pub has_break : List ℕ → Bool
 has_break bytes = list_any (λ b. b == 10) bytes
 
+-- the prompt in front of a line, if there is one
+abbrev pub asked : List (List ℕ) → List ℕ
+asked [] = []
+asked (line ∷ more) = prompt
+
+-- Behind a write that fails nothing more is read, and so nothing answered: where any byte was read, the opening was written whole, and so
+-- was the answer of each line that was read but one at most, the last, with the prompt in front of that one.
+pub record IsTimely (g : Game) (echo : Bool) (opening : List ℕ) (refusals : List (Option ℕ)) (from : State) (read written : List ℕ) : Type 0 where
+  pub first : List (List ℕ)
+  pub last : List (List ℕ)
+  pub parts : lines read ≡ first ++ last
+  pub one : length last ≤ 1
+  pub told_first : 0 < length read → IsFront (opening ++ (told echo (exchanges g refusals from first) ++ asked last)) written
+
 -- A run that broke off, behind this opening. The bytes that were read are lines that are answered, a
 -- line that was being typed, and, where there is too much input, the byte past the limit. An answered
 -- line is whole, unless the input has ended and writing its answer failed. What was written is a front
@@ -90,3 +105,4 @@ pub record BrokeOff (fault : RunFault) (g : Game) (echo : Bool) (opening : List 
   pub begins : fault ≢ Write → IsFront (opening ++ played g echo refusals from (lines whole)) written
   pub going : fault ≢ Write → to.ending ≡ None
   pub typing : 0 < length typed → to.ending ≡ None
+  pub timely : IsTimely g echo opening refusals from read written

@@ -7,10 +7,10 @@ use play_meaning::ActNo;
 use world_meaning::{KindNo, ObjNo};
 use world_store::World;
 
-/// The world as it is, with its story.
+/// The world as it is, with its story: what `command_parser` reads commands against.
 #[derive(Clone, Copy)]
-pub(crate) struct InPlay<'a> {
-    pub(crate) world: &'a World,
+pub struct InPlay<'a> {
+    pub world: &'a World,
 }
 
 impl Commands for InPlay<'_> {

@@ -21,6 +21,7 @@ mod typed;
 mod watched;
 
 pub use fault::{RunFault, StartFault};
+pub use in_play::InPlay;
 pub use playing::run;
 pub use reply::Reply;
 pub use session::Session;

@@ -47,7 +47,7 @@ fn text_told(alloc: Global, text: &[u8]) -> Result<String, AllocError> {
 }
 
 /// What is listed, or `nothing`.
-fn listed(alloc: Global, line: String) -> Result<String, AllocError> {
+pub fn listed(alloc: Global, line: String) -> Result<String, AllocError> {
     if line.is_empty() {
         format!(in alloc; "nothing")
     } else {
@@ -78,7 +78,7 @@ fn none(alloc: Global) -> Result<String, AllocError> {
 }
 
 /// The number of a code, if there is one.
-fn code_told(alloc: Global, code: Option<u16>) -> Result<String, AllocError> {
+pub fn code_told(alloc: Global, code: Option<u16>) -> Result<String, AllocError> {
     match code {
         Some(number) => format!(in alloc; "{number}"),
         None => none(alloc),

@@ -4,6 +4,8 @@ use crate::worlds::pair::{are_same, reverted};
 use crate::worlds::words::Words;
 use object_tree::Tree;
 use play_meaning::{Change, WorldFault};
+use rule_index::Index;
+use standard_rules::HostTable;
 use std::alloc::Global;
 use std::fmt;
 use std::rc::Rc;
@@ -61,12 +63,14 @@ fn visible_count(story: &Story, world: &World) -> usize {
     seen
 }
 
-/// The words of a change of each sort that the furnished story allows, without those of scenes, of which it has none.
+/// The words of a change of each sort: those of a scene and of a value for a story that has some, the others for the furnished one.
 fn words_of(call: &str) -> Option<&'static str> {
     match call {
         "set_flag" => Some("chest open true"),
         "set_number" => Some("coin weight 9"),
         "set_variable" => Some("1 40"),
+        "set_scene" => Some("0 true true"),
+        "set_value" => Some("14 0 1"),
         "put" => Some("coin on table"),
         "take_out" => Some("coin"),
         "end_story" => Some("You won."),
@@ -160,6 +164,8 @@ pub fn called(alloc: Global, story: &Rc<Story>, world: &World, word: &str) -> An
         "idle" => Answer::Made,
         "tree" => made(Tree::new(alloc, count(story.as_ref())).is_ok()),
         "start" => made(World::start(alloc, story).is_ok()),
+        "index" => made(Index::build(alloc, story).is_ok()),
+        "hosts" => made(HostTable::standard(alloc).is_ok()),
         "copy" => made(world.copy(alloc).is_ok()),
         "see" => Answer::Told(sees_last(story.as_ref(), world)),
         "list" => Answer::Told(visible_count(story.as_ref(), world)),

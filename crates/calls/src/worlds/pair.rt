@@ -16,10 +16,11 @@ pub struct Pair {
     marks: Vec<Mark>,
 }
 
-/// Whether two worlds say the same of an object: where it is, its number, and its properties.
+/// Whether two worlds say the same of an object: where it is, its number, its value, and its properties.
 fn agree_on(world: &World, other: &World, object: ObjNo) -> bool {
     world.holder(object) == other.holder(object)
         && world.number(object, 0) == other.number(object, 0)
+        && world.value(object, 0) == other.value(object, 0)
         && (0..11u8).all(|property| world.flag(object, property) == other.flag(object, property))
 }
 
@@ -30,11 +31,12 @@ fn agree_on_all(world: &World, other: &World) -> bool {
         .all(|object| agree_on(world, other, object))
 }
 
-/// Whether two worlds say the same of all that the furnished story has: of its objects, its two variables, the turn count and
-/// the ending.
+/// Whether two worlds say the same of all that these stories have: of their objects, two variables, two scenes, the turn count and the
+/// ending.
 pub fn are_same(world: &World, other: &World) -> bool {
     agree_on_all(world, other)
         && (0..2u8).all(|variable| world.variable(variable) == other.variable(variable))
+        && (0..2u8).all(|scene| world.scene(scene) == other.scene(scene))
         && world.turns() == other.turns()
         && world.ended() == other.ended()
 }

@@ -1,11 +1,12 @@
 //! Rows: calls of a story's world, `;` in between, made one after the other on a world as the story begins.
 use crate::joined::add;
 use crate::worlds::answer::{chain_told, objects_told, truth_told};
+use crate::worlds::buckets::{bucket_told, place_told};
 use crate::worlds::changes::{change_of, changed};
 use crate::worlds::pair::Pair;
 use crate::worlds::reads::read_told;
 use crate::worlds::rules::rule_told;
-use crate::worlds::stages::{action_told, book_told};
+use crate::worlds::stages::{action_told, book_told, tests_told};
 use crate::worlds::words::Words;
 use play_meaning::make;
 use standard_rules::HostTable;
@@ -93,6 +94,9 @@ fn played_told(
         "rule" => Ok(rule_told(alloc, world, words)?),
         "perform" => Ok(action_told(alloc, world, table, words)?),
         "consult" => Ok(book_told(alloc, world, table, words)?),
+        "tests" => Ok(tests_told(alloc, world, table, words)?),
+        "bucket" => Ok(bucket_told(alloc, world, words)?),
+        "place" => Ok(place_told(alloc, world, words)?),
         _ => Ok(None),
     }
 }
@@ -108,7 +112,7 @@ fn words_told(
     match words.word() {
         "make" => make_told(alloc, world, &mut words),
         "chain" => climb_told(alloc, world, &mut words),
-        "rule" | "perform" | "consult" => {
+        "rule" | "perform" | "consult" | "tests" | "bucket" | "place" => {
             let call = Words::of(told).word();
             match played_told(alloc, world, table, call, &mut words)? {
                 Some(told) => Ok(told),
@@ -130,7 +134,8 @@ fn revert_told(alloc: Global, pair: &mut Pair) -> Result<String, AllocError> {
 
 /// What a call answers. Beside those of the world there are `make` in front of a change, which makes it by the function of that
 /// name; `rule`, what the standard rule of a number answers of a noun and a second one, its changes being made; `perform`, what an action
-/// says and comes to, and `consult`, what a rulebook does outside an action; `copy`, behind which the calls go to the copy; `other`, behind which they go to the world that isn't called;
+/// says and comes to, `tests`, how many rules are asked for it, and `consult`, what a rulebook does outside an action; `bucket`, which rules of
+/// a rulebook admit an action, a noun and a room, and `place`, where a rule stands in its rulebook; `copy`, behind which the calls go to the copy; `other`, behind which they go to the world that isn't called;
 /// `agree`, whether the two worlds say the same of all objects; `mark`, and `revert`, which turns the world that is called back to the
 /// last mark that is left.
 fn call_told(

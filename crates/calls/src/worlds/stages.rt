@@ -72,6 +72,18 @@ fn played(
     }
 }
 
+/// The action of a number, of a noun and a second one.
+fn action_in(words: &mut Words<'_>) -> Option<ActionNow> {
+    let action = words.place()?;
+    let now = ActionNow {
+        action: ActNo::new(action),
+        noun: words.object(),
+        second: words.object(),
+        silent: false,
+    };
+    if words.are_read() { Some(now) } else { None }
+}
+
 /// Performs the action of a number, of a noun and a second one.
 pub fn action_told(
     alloc: Global,
@@ -79,19 +91,30 @@ pub fn action_told(
     table: &HostTable,
     words: &mut Words<'_>,
 ) -> Result<Option<String>, AllocError> {
-    let Some(action) = words.place() else {
+    match action_in(words) {
+        Some(now) => played(alloc, world, table, Asked::Action(now)),
+        None => Ok(None),
+    }
+}
+
+/// How many rules are asked for an action, which is performed in a copy.
+pub fn tests_told(
+    alloc: Global,
+    world: &World,
+    table: &HostTable,
+    words: &mut Words<'_>,
+) -> Result<Option<String>, AllocError> {
+    let Some(now) = action_in(words) else {
         return Ok(None);
     };
-    let now = ActionNow {
-        action: ActNo::new(action),
-        noun: words.object(),
-        second: words.object(),
-        silent: false,
-    };
-    if !words.are_read() {
+    if !table.is_complete() {
         return Ok(None);
     }
-    played(alloc, world, table, Asked::Action(now))
+    let index = Index::build(alloc, world.shared_story())?;
+    let copy = world.copy(alloc)?;
+    let mut stage = Stage::new(alloc, world.story(), &index, table, copy);
+    let _ = done(alloc, &mut stage, Asked::Action(now));
+    Ok(Some(format!(in alloc; "{}", stage.tests())?))
 }
 
 /// Consults the rulebook of a number outside an action.
