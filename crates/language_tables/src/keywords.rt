@@ -8,6 +8,7 @@ ghost use Rattle.language_tables.specs.WrittenKeywords.{written_articles, writte
 ghost use Rattle.language_tables.specs.WrittenNames.{written_darkness, written_if, written_joints, written_pieces, written_verbs};
 
 /// The keywords with their spellings.
+#[tactic(auto, unfolding(i7_sentences::specs::Keywords::all_keywords))]
 pub fn keywords_are_as_written()
     ensures { map (map (λ row. (row.spelling, row.keyword))) all_keywords ≡ written_keywords }
 {}

@@ -18,11 +18,13 @@ pub fn book_names_are_as_written()
 {}
 
 /// The standard actions, by number.
+#[tactic(auto, unfolding(i7_actions::specs::Actions::standard_actions))]
 pub fn action_names_are_as_written()
     ensures { standard_actions ≡ written_actions }
 {}
 
 /// The standard rules, by number.
+#[tactic(auto, unfolding(i7_rules::specs::RuleList::standard_names))]
 pub fn rule_names_are_as_written()
     ensures { standard_names ≡ written_rules }
 {}
