@@ -68,9 +68,12 @@ fn a_turn_whose_stored_rule_refuses_memory_is_abandoned(rt: HostRuntime) -> Resu
 }
 
 #[test]
-fn a_tried_action_whose_stored_rule_refuses_memory_abandons_the_whole(rt: HostRuntime) -> Result<(), Fail> {
+fn a_tried_action_whose_stored_rule_refuses_memory_abandons_the_whole(
+    rt: HostRuntime,
+) -> Result<(), Fail> {
     let alloc = rt.alloc();
-    let source = b"The Hall is a room. The ball is in the Hall.\n\nBefore waiting:\n\tnow the ball is nowhere;\n\ttry jumping.\n".as_slice();
+    let source =
+        b"The Hall is a room. The ball is in the Hall.\n\nBefore waiting:\n\tnow the ball is nowhere;\n\ttry jumping.\n".as_slice();
     // the rule that reports jumping, which waiting tries
     let hosts = table_refusing(alloc, 53)?;
     let play = play_bytes(alloc, source, hosts, b"z\nlook\n", true)?;

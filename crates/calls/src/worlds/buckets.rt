@@ -41,6 +41,8 @@ pub fn place_told(
         return Ok(None);
     }
     let index = Index::build(alloc, world.shared_story())?;
-    let place = index.place(rule).and_then(|place| u16::try_from(place).ok());
+    let place = index
+        .place(rule)
+        .and_then(|place| u16::try_from(place).ok());
     Ok(Some(code_told(alloc, place)?))
 }
