@@ -1,5 +1,4 @@
 //! The program's words.
-use crate::testing::Trying;
 use clap::error::ErrorKind;
 use clap::{Arg, ArgAction, ArgMatches, Command, Error};
 use source_player::ProgramFault;
@@ -15,7 +14,7 @@ pub struct Playing<'a> {
 }
 
 /// What the program is told to do.
-#[derive(Debug, Drop)]
+#[derive(Clone, Copy, Debug, Drop)]
 pub enum Order<'a> {
     Compile {
         source: &'a str,
@@ -28,11 +27,6 @@ pub enum Order<'a> {
     Run {
         source: &'a str,
         playing: Playing<'a>,
-    },
-    Test {
-        story: &'a str,
-        transcripts: Vec<&'a str>,
-        how: Trying,
     },
 }
 
@@ -82,29 +76,6 @@ fn compiling<'a>(alloc: Global) -> Result<Command<'a>, AllocError> {
         .arg(file(alloc, "STORY", story))
 }
 
-/// The form that tries kept transcripts.
-fn testing<'a>(alloc: Global) -> Result<Command<'a>, AllocError> {
-    let transcripts =
-        "Transcripts that were kept, as --transcript writes them; in front of each may stand lines of comments, `* ` and any text";
-    Command::new(alloc, "test")
-        .about("Compares what a story says with transcripts that were kept")
-        .after_help("Example: i7story test stories/ferry.i7 ferry.txt")
-        .arg(file(alloc, "STORY", "The story file, or its source"))?
-        .arg(file(alloc, "TRANSCRIPT", transcripts).num_args(1..))?
-        .arg(
-            Arg::new(alloc, "all")
-                .long("all")
-                .action(ArgAction::SetTrue)
-                .help("Shows each answer that differs, and not the first of a file alone"),
-        )?
-        .arg(
-            Arg::new(alloc, "bless")
-                .long("bless")
-                .action(ArgAction::SetTrue)
-                .help("Writes a file that differs anew, with what the story says now"),
-        )
-}
-
 /// The forms of the program.
 fn forms<'a>(alloc: Global) -> Result<Command<'a>, AllocError> {
     let play = Command::new(alloc, "play")
@@ -123,8 +94,7 @@ fn forms<'a>(alloc: Global) -> Result<Command<'a>, AllocError> {
         .subcommand_required(true)
         .subcommand(compiling(alloc)?)?
         .subcommand(with_commands(play, alloc, file(alloc, "STORY", story))?)?
-        .subcommand(with_commands(run, alloc, file(alloc, "SOURCE", source))?)?
-        .subcommand(testing(alloc)?)
+        .subcommand(with_commands(run, alloc, file(alloc, "SOURCE", source))?)
 }
 
 /// How the words of a form tell to play.
@@ -135,21 +105,9 @@ fn playing_in<'a>(found: &ArgMatches<'a>) -> Playing<'a> {
     }
 }
 
-/// The transcripts that the words of a form name.
-fn transcripts_in<'a>(alloc: Global, found: &ArgMatches<'a>) -> Result<Vec<&'a str>, AllocError> {
-    let mut transcripts = Vec::new(alloc);
-    if let Some(paths) = found.get_strs("TRANSCRIPT") {
-        transcripts.extend_from_slice(paths)?;
-    }
-    Ok(transcripts)
-}
-
-/// The order in the words of a form, if its files are named.
-fn order_of<'a>(
-    name: &str,
-    found: &ArgMatches<'a>,
-    transcripts: Vec<&'a str>,
-) -> Option<Order<'a>> {
+/// The order in the words that were found.
+fn order_in<'a>(matches: &ArgMatches<'a>) -> Option<Order<'a>> {
+    let (name, found) = matches.subcommand()?;
     match name {
         "compile" => Some(Order::Compile {
             source: found.get_str("SOURCE")?,
@@ -163,25 +121,8 @@ fn order_of<'a>(
             source: found.get_str("SOURCE")?,
             playing: playing_in(found),
         }),
-        "test" => Some(Order::Test {
-            story: found.get_str("STORY")?,
-            transcripts,
-            how: Trying {
-                all: found.get_flag("all"),
-                bless: found.get_flag("bless"),
-            },
-        }),
         _ => None,
     }
-}
-
-/// The order in the words that were found.
-fn order_in<'a>(alloc: Global, matches: &ArgMatches<'a>) -> Result<Option<Order<'a>>, AllocError> {
-    let Some((name, found)) = matches.subcommand() else {
-        return Ok(None);
-    };
-    let transcripts = transcripts_in(alloc, found)?;
-    Ok(order_of(name, found, transcripts))
 }
 
 /// What clap says of faulty words, or of a request for help.
@@ -213,10 +154,9 @@ pub fn told<'a>(rt: &HostRuntime, words: &'a [String]) -> Result<Order<'a>, Prog
     let alloc = rt.alloc();
     let forms = forms(alloc).map_err(|_| ProgramFault::Memory)?;
     match forms.try_get_matches_from(words) {
-        Ok(matches) => match order_in(alloc, &matches) {
-            Ok(Some(order)) => Ok(order),
-            Ok(None) => Err(unreadable(alloc)),
-            Err(_) => Err(ProgramFault::Memory),
+        Ok(matches) => match order_in(&matches) {
+            Some(order) => Ok(order),
+            None => Err(unreadable(alloc)),
         },
         Err(error) => Err(refusal(alloc, &error)),
     }

@@ -4,7 +4,6 @@ ghost use Rattle.story_player.specs.Watches.{watched_failed};
 
 use crate::command::{Order, Playing, faulty};
 use crate::saving::{is_same_file, save};
-use crate::testing::{Verdict, try_files};
 use source_player::{ProgramFault, SourceRunFault, run_source, run_story};
 use standard_rules::HostTable;
 use std::fs::{self, File};
@@ -13,7 +12,7 @@ use story_file::compile;
 use story_player::Watched;
 
 /// The path that is standard input where a file is read, and what it leads to.
-pub const INPUT: &str = "-";
+const INPUT: &str = "-";
 
 const STANDARD_INPUT: &str = "/dev/stdin";
 
@@ -27,7 +26,7 @@ fn unread<'a>(path: &'a str, error: &io::Error) -> ProgramFault<'a> {
 }
 
 /// Reads a file whole, or standard input.
-pub fn bytes_of<'a>(rt: &HostRuntime, path: &'a str) -> Result<Vec<u8>, ProgramFault<'a>> {
+fn bytes_of<'a>(rt: &HostRuntime, path: &'a str) -> Result<Vec<u8>, ProgramFault<'a>> {
     let read = if path == INPUT {
         let mut bytes = Vec::new(rt.alloc());
         rt.stdin().read_to_end(&mut bytes).map(|_| bytes)
@@ -165,19 +164,11 @@ fn play_file<'a>(
     }
 }
 
-/// Does what the program is told; only where transcripts are tried anything may differ.
-pub fn obey<'a>(rt: &HostRuntime, order: Order<'a>) -> Result<Verdict, ProgramFault<'a>> {
+/// Does what the program is told.
+pub fn obey<'a>(rt: &HostRuntime, order: Order<'a>) -> Result<(), ProgramFault<'a>> {
     match order {
-        Order::Compile { source, story } => compile_file(rt, source, story)?,
-        Order::Play { story, playing } => play_file(rt, story, Holds::Story, playing)?,
-        Order::Run { source, playing } => play_file(rt, source, Holds::Source, playing)?,
-        Order::Test {
-            story,
-            transcripts,
-            how,
-        } => {
-            return try_files(rt, story, transcripts.as_slice(), how);
-        }
+        Order::Compile { source, story } => compile_file(rt, source, story),
+        Order::Play { story, playing } => play_file(rt, story, Holds::Story, playing),
+        Order::Run { source, playing } => play_file(rt, source, Holds::Source, playing),
     }
-    Ok(Verdict::Same)
 }
