@@ -20,6 +20,7 @@ import re
 import shutil
 import sys
 import tempfile
+import time
 
 here = pathlib.Path(__file__).resolve().parent
 sys.path.insert(0, str(here.parent / "tools"))
@@ -230,23 +231,33 @@ def all_edits():
     return [Edit(path) for path in sorted(here.glob("wrong_bodies/*/*.edit"))]
 
 
-def try_all(edits):
-    """The edits that weren't refused, and the processor seconds of each crate; both are told as they are found."""
-    by_crate, wrong, seconds = collections.defaultdict(list), {}, {}
+def tried_until(end, crate, edits):
+    """As `tried`, if there is time: nothing where the time is over."""
+    return tried(crate, edits) if end is None or time.time() < end else None
+
+
+def try_all(edits, end=None):
+    """The edits that weren't refused, those that weren't tried since the time was over, and the processor seconds of each crate; all are told
+    as they are found."""
+    by_crate, wrong, left, seconds = collections.defaultdict(list), {}, [], {}
     # asked of rt in the first thread, as rt wants it
     kit.crates()
     for edit in edits:
         by_crate[edit.crate].append(edit)
     with concurrent.futures.ThreadPoolExecutor(len(os.sched_getaffinity(0))) as pool:
-        runs = {pool.submit(tried, *it): it[0] for it in sorted(by_crate.items(), key=lambda it: -len(it[1]))}
+        runs = {pool.submit(tried_until, end, *it): it[0] for it in sorted(by_crate.items(), key=lambda it: -len(it[1]))}
         for run in concurrent.futures.as_completed(runs):
             crate = runs[run]
+            if run.result() is None:
+                left += by_crate[crate]
+                print(f"wrong bodies of {crate}: {len(by_crate[crate])} not tried, for want of time", flush=True)
+                continue
             found, seconds[crate] = run.result()
             wrong.update(found)
             print(f"wrong bodies of {crate}: {len(by_crate[crate]) - len(found)} refused, {len(found)} not; {seconds[crate]:.0f} s of a processor", flush=True)
             for name, why in sorted(found.items()):
                 print(f"  {name}: {why}", flush=True)
-    return wrong, seconds
+    return wrong, left, seconds
 
 
 def main(words):
@@ -259,7 +270,7 @@ def main(words):
         return 1 if fallen else 0
     named = [it for it in edits if not words or it.crate in words or it.name in words]
     chosen = [it for it in named if it not in fallen]
-    wrong, seconds = try_all(chosen)
+    wrong, _, seconds = try_all(chosen)
     print(f"{sum(seconds.values()) / 60:.1f} processor minutes")
     print(f"{len(chosen) - len(wrong)} passed, {len(wrong) + len(fallen)} failed")
     return 1 if wrong or fallen or not chosen else 0
