@@ -113,6 +113,7 @@ def main():
     edits = wrong_bodies.all_edits()
     if not all([it.stands() for it in edits]):
         sys.exit(wrong_bodies.main(["--stand"]))
+    print(f"{sum(it.is_dear for it in edits)} dear wrong bodies are only seen to apply", flush=True)
     edits = [it for it in edits if not it.is_dear]
     watch = Watch()
     well, passed = proved()

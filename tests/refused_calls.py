@@ -81,8 +81,8 @@ FURNISHED = {
     "tree": 3, "start": 6, "copy": 6, "set_flag": 7, "set_number": 7, "set_variable": 7, "put": 7, "take_out": 7, "end_story": 8, "next_turn": 7,
     "revert": 9,
 }
-# Of a world with scenes and values but neither numbers nor variables: a tree, properties, values and scenes. An index has a table for each of the
-# eleven books and one of these, and the stored rules are one table that grows.
+# Of a world with scenes and values but neither numbers nor variables: a tree, properties, values and scenes. An index and the table of stored
+# rules ask for memory at all.
 OTHERS = {"start": 6, "set_scene": 7, "set_value": 7, "index": 1, "hosts": 1}
 
 

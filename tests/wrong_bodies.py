@@ -5,8 +5,8 @@ Use: tests/wrong_bodies.py [CRATE | CRATE/NAME ..]   those of all crates but dea
      tests/wrong_bodies.py --stand                   only sees that each can still be applied
 
 A wrong body is a file tests/wrong_bodies/CRATE/NAME.edit: a line `proof: ` with the function whose proof must fail, as a check prints
-it but for the crate; then `file: `, and pairs of `old: `, which stands once in that file, and `new: `. One that takes the prover a quarter of
-an hour, and 10 GB, is dear, and ends in `.dear`.
+it but for the crate; then `file: `, and pairs of `old: `, which stands once in that file, and `new: `. One with which the prover
+came to no end in a quarter of an hour is dear, and ends in `.dear`.
 
 They are tried over the libraries that `tools/ci` or `./i7story prove` left, a crate at a time on each processor. Such a library holds what was
 proved of it, module by module: in a copy of the crate a check begins with that, so that little but the named functions is proved. These must
