@@ -3,7 +3,7 @@
 ball none of these is asked, but the standard rules of taking alone: six that check, one that carries out and one that reports; for
 taking the lamp each of them is besides.
 
-Use: tests/asked_rules.py PROGRAM    (the program of `i7story`; tests/programs.py says where that of `calls` stands)"""
+Use: tests/asked_rules.py PROGRAM    (the program of `i7story`; that of `calls` is built where it isn't yet)"""
 import pathlib
 import subprocess
 import sys

@@ -5,7 +5,7 @@ source that is taken says what a plain reader of stories says: its tables 8 to 1
 its codes are sound, and the program plays it: it begins, and answers `look`, as the reader says. So does that of a sample with
 rules of all heads, of one whose rules are listed, and of two with actions and commands of their own.
 
-Use: tests/bodies.py PROGRAM [NAME..]    (the program of `i7story`; tests/programs.py says where that of `calls` stands)
+Use: tests/bodies.py PROGRAM [NAME..]    (the program of `i7story`; that of `calls` is built where it isn't yet)
 NAME: only cases whose name begins so
 
 A case is a source with its name and what it is about. Of a body `text` is what it says, `result` how it leaves off, `ends` the

@@ -1,7 +1,7 @@
 #!/usr/bin/env python3
 """Compares what codes are and do with what is told by hand, by the rows of tests/codes/*.rows.
 
-Use: tests/code_rows.py PROGRAM [SORT]    (the program of `i7story`; tests/programs.py says where that of `calls` stands)
+Use: tests/code_rows.py PROGRAM [SORT]    (the program of `i7story`; that of `calls` is built where it isn't yet)
 
 A row is a line of fields, a tab between them. A file is a sort, and what the fields are stands in its first lines. `{9*lit }` is
 nine times `lit `, `{9>if so:}` are nine lines, each a tab deeper than the one before, and a line that begins with `#` says what

@@ -2,7 +2,7 @@
 """Runs 10,000 bodies, made at random or from sound ones by a change, in the world of a small story, with tests and a description
 made so too. What is run is what a plain checker finds sound; each run comes to an end or breaks off (N3, N4).
 
-Use: tests/code_runs.py PROGRAM    (the program of `i7story`; tests/programs.py says where that of `calls` stands)"""
+Use: tests/code_runs.py PROGRAM    (the program of `i7story`; that of `calls` is built where it isn't yet)"""
 import collections
 import random
 import struct

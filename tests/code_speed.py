@@ -2,7 +2,7 @@
 """Counts the machine's instructions that a body of a hundred phrases takes in a story of five hundred rooms, by callgrind, for each
 byte of its code that is done: the body is done once and a hundred and one times, and what else the program does is left out.
 
-Use: tests/code_speed.py PROGRAM    (the program of `i7story`; tests/programs.py says where that of `calls` stands; needs
+Use: tests/code_speed.py PROGRAM    (the program of `i7story`; that of `calls` is built where it isn't yet; needs
 valgrind; no part of the gate)"""
 import re
 import subprocess

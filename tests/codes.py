@@ -2,7 +2,7 @@
 """Asks of 100,000 codes, made at random or from sound ones by a change, whether they are sound, and compares with a plain
 checker that goes by the profile's words: where loops lie, where jumps lead, what stands on the operands.
 
-Use: tests/codes.py PROGRAM    (the program of `i7story`; tests/programs.py says where that of `calls` stands)"""
+Use: tests/codes.py PROGRAM    (the program of `i7story`; that of `calls` is built where it isn't yet)"""
 import random
 import struct
 import subprocess

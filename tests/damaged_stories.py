@@ -6,7 +6,7 @@ each cut and each flipped bit of a story with rules, books and scenes, of one wi
 of tests/bodies, the
 program of `calls` must say it, and tell the same to `look`.
 
-Use: tests/damaged_stories.py PROGRAM    (the program of `i7story`; tests/programs.py says where that of `calls` stands)"""
+Use: tests/damaged_stories.py PROGRAM    (the program of `i7story`; that of `calls` is built where it isn't yet)"""
 import json
 import pathlib
 import random

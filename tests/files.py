@@ -2,7 +2,7 @@
 """No file is lost: a story that can't be written whole leaves the old one as it was, a source is never written over, and a play beside
 compiles of one path finds a whole story each time. And what is read from standard input, and which commands from a file.
 
-Use: tests/files.py PROGRAM    (the program of `i7story`; that of `rule_listing` as tests/programs.py says)"""
+Use: tests/files.py PROGRAM"""
 import concurrent.futures
 import os
 import pathlib
@@ -13,8 +13,6 @@ import stat
 import subprocess
 import sys
 import tempfile
-
-from programs import program_of
 
 program = str(pathlib.Path(sys.argv[1]).resolve())
 stories = pathlib.Path(__file__).resolve().parents[1] / "stories"
@@ -177,11 +175,14 @@ def input_is_read():
 
 
 def listings_are_told():
-    """What the program that lists rules can't do is told as the player tells it."""
-    listing = str(program_of("rule_listing"))
-    wants("a listing of a refused source", ran("bad.i7", program=listing), 1, b"", b"bad.i7:2: C5 NotUnderstood\n")
-    wants("a listing of no file", ran("none.i7", program=listing), 3, b"", b"none.i7: cannot be read\n")
-    status, out, err = ran(program=listing)
+    """What can't be listed is told as what can't be played is."""
+    wants("a listing of a refused source", ran("rules", "bad.i7"), 1, b"", b"bad.i7:2: C5 NotUnderstood\n")
+    wants("a listing of standard input", ran("rules", "-", given=b"Hello."), 1, b"", b"-:1: C5 NotUnderstood\n")
+    wants("a listing of no file", ran("rules", "none.i7"), 3, b"", b"none.i7: cannot be read\n")
+    with open("/dev/full", "wb") as full:
+        done = subprocess.run([program, "rules", "two.i7"], stdout=full, stderr=subprocess.PIPE, timeout=60)
+    wants("a listing on a full device", (done.returncode, done.stderr), 3, b"")
+    status, out, err = ran("rules")
     count("a listing of nothing", (status, out) == (5, b"") and err, (status, out, err))
 
 

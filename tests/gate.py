@@ -1,7 +1,7 @@
 #!/usr/bin/env python3
-"""The gate: each wrong body can be applied; `rt ci` (by tools/ci) proves everything from nothing, and passes the tests and the programs; over
-what it left the wrong bodies are refused, a function at a time; and each script of tests/ passes over the built program. It ends with
-what that took, by crate and sort.
+"""The gate: each wrong body can be applied; `rt ci` (by tools/ci) proves everything from nothing and passes the program; over what it left
+the wrong bodies are refused, a function at a time; and each script of tests/ passes over the built program and the crates of tests,
+which are built without proofs. It ends with what that took, by crate and sort.
 
 Use: tests/gate.py"""
 import collections
@@ -23,7 +23,7 @@ TICKS = os.sysconf("SC_CLK_TCK")
 PAGE = os.sysconf("SC_PAGE_SIZE")
 # Behind so many minutes no crate's wrong bodies are begun, so that a slow machine comes to the end: the gate says which it left.
 MOST_MINUTES = 140
-SORTS = ["proofs", "tests", "programs", "wrong bodies"]
+SORTS = ["proofs", "programs", "wrong bodies"]
 
 
 class Watch:
@@ -59,7 +59,7 @@ class Watch:
 
     def keep(self, pid, words, fields):
         """Keeps what the process and its ended children used so far, by its crate and sort."""
-        sort = "tests" if "--test" in words else "programs" if "--crate-checked" in words else "proofs"
+        sort = "programs" if "--crate-checked" in words else "proofs"
         crate = words[words.index("--crate-name") + 1]
         # utime, stime and those of its children, its start: fields 14 to 17, and 22
         self.used[pid, fields[19]] = crate, sort, sum(map(int, fields[11:15])) / TICKS
@@ -120,12 +120,11 @@ def main():
     seconds, of_proofs = watch.end(), used_so_far()
     if not well:
         return 1
-    for name in ("i7story", "calls", "rule_listing"):
-        kit.stamp(kit.proved(name), kit.sources(name))
+    kit.stamp(kit.proved("i7story"), kit.sources("i7story"))
     wrong, left, of_edits = wrong_bodies.try_all(edits, began + 60 * MOST_MINUTES)
     of_wrong_bodies = used_so_far() - of_proofs
     seconds.update({(crate, "wrong bodies"): used for crate, used in of_edits.items()})
-    failed, ran = scripts.all_told(kit.proved("i7story"), [])
+    failed, ran = scripts.all_told(kit.proved("i7story"), []) if scripts.build([]) else (["the crates of tests"], 0)
     of_scripts = used_so_far() - of_proofs - of_wrong_bodies
     print(table(seconds))
     print(f"rt ci {of_proofs / 60:.1f}, wrong bodies {of_wrong_bodies / 60:.1f}, scripts {of_scripts / 60:.1f} processor minutes: "

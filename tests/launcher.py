@@ -32,8 +32,10 @@ def answers():
     yield "a play", repr(ran("run", top / "stories/two-rooms.i7", "--transcript", given=b"n\n")).encode(), repr((0, PLAYED, WANTED)).encode()
     status, _, err = ran("run", "none.i7")
     yield "a source that isn't there", repr((status, err)).encode(), repr((3, WANTED + b"none.i7: cannot be read\n")).encode()
-    for form in ((), ("compile",), ("play",), ("run",)):
+    for form in ((), ("compile",), ("play",), ("rules",), ("run",), ("test",)):
         yield f"the help of {form}", str(helped(*form)).encode(), b"True"
+    said = subprocess.run([top / "tools/fmt", "--check"], capture_output=True).stdout
+    yield "crates of tests that aren't laid out", said, b""
     said = subprocess.run([top / "tools/crate", "world_meaning"], capture_output=True, text=True).stdout
     yield "what is told of a crate", str("stands on: none" in said and "i7story" in said).encode(), b"True"
 

@@ -1,22 +1,19 @@
 #!/usr/bin/env python3
-"""Resolves rules of the greatest length, whose names are all known, one after the other: each comes to what is told here, within a
-second.
+"""Compiles rules of the greatest length, whose names are all known, one after the other: each comes to what is told here, within a second.
 
-Use: tests/long_rules.py PROGRAM    (the program of `i7story`; tests/programs.py says where that of `calls` stands)"""
+Use: tests/long_rules.py PROGRAM    (the program of `i7story`)"""
 import os
 import subprocess
-import tempfile
+import sys
 
-from programs import calls_of
 from row_files import report
 
-calls = calls_of("rules")
 LONGEST = 262144
 # A program that is built without proofs is slower.
 SECONDS = int(os.environ.get("I7STORY_SECONDS", 1))
 PLAIN = "The Hall is a room. The box is an open container in the Hall. The score is a number that varies."
 # More than eight `from`s within one another, or more than 65,535 bytes of code.
-TOO_MANY = "refused\t3: C12 TooMany"
+TOO_MANY = "-:3: C12 TooMany"
 # A rule's front, what stands in it again and again, its end, and what it comes to.
 RULES = {
     "conditions": ("Every turn when the box is open", " and the box is open", ', say "a".', TOO_MANY),
@@ -30,7 +27,7 @@ RULES = {
     "adjectives of a noun": ("Instead of taking", " not open", " containers, rule fails.", TOO_MANY),
     "adjectives of a place": ("Every turn in", " dark", " rooms, rule fails.", TOO_MANY),
     # `is not not not` has no reading
-    "denials": ("Every turn when the box is", " not", ' open, say "a".', "refused\t3: C7 UnknownName"),
+    "denials": ("Every turn when the box is", " not", ' open, say "a".', "-:3: C7 UnknownName"),
 }
 BLOCKS = "".join("\t" * deep + "if the box is open:\n" for deep in range(1, 690)) + "\t" * 690 + "rule fails."
 
@@ -43,16 +40,14 @@ def long_rule(front, again, end):
 
 def answer(rule):
     """What the program says of the rule."""
-    with tempfile.NamedTemporaryFile("w", newline="") as file:
-        file.write(f"{PLAIN}\n\n{rule}\x1e")
-        file.flush()
-        try:
-            done = subprocess.run([*calls, "bodies", file.name], capture_output=True, text=True, check=True, timeout=SECONDS)
-        except subprocess.TimeoutExpired:
-            return "more than a second"
-    return done.stdout.removesuffix("\n")
+    try:
+        words = [sys.argv[1], "compile", "-", "/dev/null"]
+        done = subprocess.run(words, input=f"{PLAIN}\n\n{rule}", capture_output=True, text=True, timeout=SECONDS)
+    except subprocess.TimeoutExpired:
+        return "more than a second"
+    return done.stderr.removesuffix("\n") if done.returncode else "compiled"
 
 
 answers = [(name, answer(long_rule(*rule)), wanted) for name, (*rule, wanted) in RULES.items()]
-answers.append(("blocks", answer("Every turn:\n" + BLOCKS), "did\tFailure\tNone\t[]"))
+answers.append(("blocks", answer("Every turn:\n" + BLOCKS), "compiled"))
 report("long rules", answers)

@@ -1,7 +1,7 @@
 #!/usr/bin/env python3
 """Compares what words mean with what is told by hand, by the rows of tests/meanings/*.rows.
 
-Use: tests/meanings.py PROGRAM [SORT]    (the program of `i7story`; tests/programs.py says where that of `calls` stands)
+Use: tests/meanings.py PROGRAM [SORT]    (the program of `i7story`; that of `calls` is built where it isn't yet)
 
 A row is a line: the words, a tab, what they mean as it is printed, and perhaps a tab and what they are read with beside what
 tests/meanings/scene names, or in its place behind `alone`: `repeat gem;variable 7 depth`. A file is a sort, and what is

@@ -2,7 +2,7 @@
 """Compares what the names of a source stand for with what is told by hand: of each source tests/names/NAME.i7 the rows of NAME.rows,
 what is asked and what is told (tests/row_files.py says how rows are written).
 
-Use: tests/names.py PROGRAM    (the program of `i7story`; tests/programs.py says where that of `calls` stands)"""
+Use: tests/names.py PROGRAM    (the program of `i7story`; that of `calls` is built where it isn't yet)"""
 import pathlib
 import subprocess
 import tempfile

@@ -3,7 +3,7 @@
 it is read as (tests/row_files.py says how rows are written).
 
 Use: tests/readings.py PROGRAM [FILE]    FILE: `tokens`, `rules` .. (the program of `i7story`;
-tests/programs.py says where that of `calls` stands)"""
+that of `calls` is built where it isn't yet)"""
 import pathlib
 import subprocess
 import sys

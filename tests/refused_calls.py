@@ -7,7 +7,7 @@ was refused only where the world behind it is as it was; `revert` makes a change
 
 The story is the furnished one, and for scenes, values, an index and the table of stored rules that of tests/worlds/scenes.i7.
 
-Use: tests/refused_calls.py PROGRAM    (the program of `i7story`; tests/programs.py says where that of `calls` stands)"""
+Use: tests/refused_calls.py PROGRAM    (the program of `i7story`; that of `calls` is built where it isn't yet)"""
 import os
 import pathlib
 import subprocess

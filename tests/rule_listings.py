@@ -1,28 +1,24 @@
 #!/usr/bin/env python3
-"""Compares the rulebooks that the program of `rule_listing` prints with what is told by hand. A row of tests/rule_listings/NAME.rows
+"""Compares the rulebooks that `i7story rules` prints with what is told by hand. A row of tests/rule_listings/NAME.rows
 has sentences that are put behind the source NAME.i7, the name of a rulebook, and its rules, each with what puts it at its place
 (tests/row_files.py says how rows are written). Of a source that is refused the refusal stands in place of the name.
 
-Use: tests/rule_listings.py PROGRAM    (the program of `i7story`; tests/programs.py says where that of `rule_listing` stands)"""
+Use: tests/rule_listings.py PROGRAM"""
 import pathlib
 import subprocess
-import tempfile
+import sys
 
-from programs import program_of
 from row_files import report, rows_of
 
-program = program_of("rule_listing")
+program = sys.argv[1]
 folder = pathlib.Path(__file__).resolve().parent / "rule_listings"
 
 
 def printed(source):
     """What is printed of a source: the rules of each rulebook by its name, or the only line."""
-    with tempfile.NamedTemporaryFile() as file:
-        file.write(source)
-        file.flush()
-        done = subprocess.run([program, file.name], capture_output=True, timeout=60)
+    done = subprocess.run([program, "rules", "-"], input=source, capture_output=True, timeout=60)
     if done.returncode:
-        return {done.stderr.removeprefix(f"{file.name}:".encode()).strip(): []}
+        return {done.stderr.removeprefix(b"-:").strip(): []}
     books = {}
     for line in done.stdout.splitlines():
         if line.startswith(b"    "):

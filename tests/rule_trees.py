@@ -1,7 +1,7 @@
 #!/usr/bin/env python3
 """Compares what bodies of tests/bodies/phrases.json mean with trees written by hand, for rules are resolved before they are emitted.
 
-Use: tests/rule_trees.py PROGRAM    (the program of `i7story`; tests/programs.py says where that of `calls` stands)
+Use: tests/rule_trees.py PROGRAM    (the program of `i7story`; that of `calls` is built where it isn't yet)
 
 Objects go by their numbers: the player is 0, north to outside are 1 to 12, and the source's own follow by first mention;
 variables, properties and scenes go by theirs."""

@@ -2,13 +2,11 @@
 """Runs the scripts of tests/ over a built program, as many at once as there are processors, and tells of each whether it passed, its
 time and its processor seconds; of one that failed, all that it said.
 
-Use: tests/scripts.py PROGRAM [NAME ..]     NAME: only scripts of these names, as `rows` or `plays`
-
-The programs of `calls` and `rule_listing` are the proved ones, or those that the environment names by I7STORY_CALLS and
-I7STORY_RULE_LISTING (tests/programs.py)."""
+Use: tests/scripts.py PROGRAM [NAME ..]     NAME: only scripts of these names, as `rows` or `plays`"""
 import concurrent.futures
 import os
 import pathlib
+import subprocess
 import sys
 import time
 
@@ -19,10 +17,18 @@ import kit
 # The scripts, those that take longest first.
 SIDE_BY_SIDE = [
     "refused_memory.sh", "damaged_stories.py", "codes.py", "code_runs.py", "refused_calls.py", "story_files.py", "refused_sources.py",
-    "memory_gone.py", "bodies.py", "cases.py", "plays.py", "random_rules.py", "rows.sh", "files.py", "program.sh", "launcher.py", "streams.py", "pages.py", "editors.py",
-    "code_rows.py", "readings.py", "meanings.py", "names.py", "rule_trees.py", "standard_sentences.py", "rule_listings.py", "worlds.py", "asked_rules.py"]
+    "memory_gone.py", "long_sessions.py", "bodies.py", "cases.py", "plays.py", "random_rules.py", "rows.sh", "files.py", "program.sh", "launcher.py", "streams.py", "golden.py", "pages.py", "editors.py",
+    "code_rows.py", "readings.py", "meanings.py", "names.py", "rule_trees.py", "standard_sentences.py", "rule_listings.py", "worlds.py", "asked_rules.py", "unit_tests.py"]
 # These hold what they run to a time, and so run with nothing beside them.
 ALONE = ["hostile.sh", "long_rules.py"]
+
+
+def build(programs):
+    """Builds the crates of tests that are run, and these programs, without proofs, all at once; whether all were built."""
+    names = [*programs, *(name for name in kit.crates_of_tests() if kit.lines_of_crates()[name])]
+    build = lambda name: subprocess.run([kit.top / "tools" / "build", name], stdout=subprocess.DEVNULL).returncode == 0
+    with concurrent.futures.ThreadPoolExecutor(len(os.sched_getaffinity(0))) as pool:
+        return all([*pool.map(build, names)])
 
 
 def run(script, program):

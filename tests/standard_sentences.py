@@ -3,7 +3,7 @@
 book and about the action of the standard rule of its number, and about nothing more; and each book lists the author's behind the
 standard ones. What each body means is what play_meaning/specs/StandardRules.antt says, read by tests/plain_definitions.py.
 
-Use: tests/standard_sentences.py PROGRAM    (the program of `i7story`; tests/programs.py says where that of `calls` stands)"""
+Use: tests/standard_sentences.py PROGRAM    (the program of `i7story`; that of `calls` is built where it isn't yet)"""
 import pathlib
 import subprocess
 import sys

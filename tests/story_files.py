@@ -6,7 +6,7 @@ those of rules.rows, by the readers of a loaded story too; the order of rules th
 that of listings.rows; what sentences declare that an action asks for is what actions.rows tells, and what they say that commands and
 words mean what grammar.rows tells.
 
-Use: tests/story_files.py PROGRAM    (the program of `i7story`; tests/programs.py says where that of `calls` stands,
+Use: tests/story_files.py PROGRAM    (the program of `i7story`; that of `calls` is built where it isn't yet,
 tests/row_files.py how rows are written)"""
 import pathlib
 import re

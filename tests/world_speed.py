@@ -3,7 +3,7 @@
 stories of several sizes, of a door, and of a thing deep in others; the list of all that is visible; a copy. What a call that does
 nothing takes is left out.
 
-Use: tests/world_speed.py PROGRAM    (the program of `i7story`; tests/programs.py says where that of `calls` stands; needs
+Use: tests/world_speed.py PROGRAM    (the program of `i7story`; that of `calls` is built where it isn't yet; needs
 valgrind; no part of the gate)"""
 import os
 import pathlib

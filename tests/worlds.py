@@ -1,11 +1,11 @@
 #!/usr/bin/env python3
 """Compares what the calls of a story's world answer with what is told by hand, by the rows of tests/worlds/*.rows.
 
-Use: tests/worlds.py PROGRAM [FILE]    (the program of `i7story`; tests/programs.py says where that of `calls` stands)
+Use: tests/worlds.py PROGRAM [FILE]    (the program of `i7story`; that of `calls` is built where it isn't yet)
 
 A row is a line: calls, `; ` in between, made one after the other on a world as the story begins, each with what it answers behind
 ` = `; one behind which nothing stands is to be made. The calls have the names of the methods of `World`, `Ground` and
-`GroundMut`, and the words of `crates/calls/src/worlds/names.rt`; `row.rt` beside it says what `make`, `copy`, `other`,
+`GroundMut`, and the words of `tests/crates/calls/src/worlds/names.rs`; `row.rs` beside it says what `make`, `copy`, `other`,
 `agree`, `mark` and `revert` are. The story of FILE is that of the source of its name beside it, or that of its name in
 tests/story_files, or the furnished one, and a line that begins with `#` says what the rows below it are about."""
 import pathlib

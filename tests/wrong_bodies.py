@@ -95,15 +95,16 @@ OF_LEMMAS = re.compile(r"(?m)^\./proofs/(\w+)\.antt:\d+:\d+: error")
 
 def lacks_own_goal(verdict, said, function, crate):
     """Whether a goal of the function's own is not proved: one that the search left, or one whose answer is refused, or a lemma that it cites.
-    The goals of a function that stands in a cycle of calls begin with its name, and stand with the cycle's."""
+    The goals of a function that stands in a cycle of calls stand with the cycle's, and begin with its name where others are in it."""
     path, name = function.replace("::", "/"), function.rpartition("::")[2]
+    calls_itself = f"{path.removesuffix(name)}+{name}"
     left = re.match(r"no proof: expected answers in \./proofs/(\S+)/Answers\.antt; `search` did not prove (.*)", verdict)
     refused = re.match(r"not proved; it stands on `Rattle\.\w+\.proofs\.(\S+)\.Answers\.(.*)", verdict)
     told = re.findall(r"(?m)^\./proofs/(\S+)/Answers\.antt:\d+:\d+: error: `(.*)", said) if verdict.startswith("not proved") else []
     lemma = re.match(r"not proved; it stands on `Rattle\.\w+\.proofs\.([\w.]+)\.[\w-]+`", verdict)
     for place, goals in [it.groups() for it in (left, refused) if it] + told:
         own = place.replace(".", "/")
-        if own == path or own.rpartition("/")[2].startswith("+") and f"{name}-" in goals:
+        if own in (path, calls_itself) or own.rpartition("/")[2].startswith("+") and f"{name}-" in goals:
             return True
     # a file of lemmas is no function's folder
     lemmas = [lemma[1].replace(".", "/")] if lemma else [place for place in OF_LEMMAS.findall(said) if verdict == "not proved"]

@@ -47,11 +47,27 @@ def crates():
     return {it.name: it for it in sorted(found, key=lambda it: len(it.below()))}
 
 
+def lines_in(file):
+    """The libraries that each crate of a list names, those of the kit among them."""
+    lines = [line for line in file.read_text().splitlines() if line and not line.startswith("#")]
+    return {line.partition(":")[0].strip(): line.partition(":")[2].split() for line in lines}
+
+
+@functools.lru_cache(maxsize=None)
+def crates_of_tests():
+    """The libraries that each crate of tests names. These crates are Rust without proofs, in files `.rs`, which rt doesn't read."""
+    return lines_in(top / "tests" / "crates" / "libraries.txt")
+
+
 @functools.lru_cache(maxsize=None)
 def lines_of_crates():
-    """The libraries that each crate of crates.txt names, those of the kit among them."""
-    lines = [line for line in (top / "crates.txt").read_text().splitlines() if line and not line.startswith("#")]
-    return {line.partition(":")[0].strip(): line.partition(":")[2].split() for line in lines}
+    """The libraries that each crate names, those of tests among them."""
+    return {**lines_in(top / "crates.txt"), **crates_of_tests()}
+
+
+def folder(name):
+    """The folder of a crate."""
+    return top / "tests" / "crates" / name if name in crates_of_tests() else top / "crates" / name
 
 
 def stands_on(name):
@@ -65,17 +81,18 @@ def stands_on(name):
     return found
 
 
+def files(name):
+    """The files that a crate is made of."""
+    return [it for part in ("src", "specs", "proofs") for it in sorted((folder(name) / part).rglob("*")) if it.is_file()]
+
+
 def sources(name):
-    """A sum of all that a program is made of: the text of its crate and of those that it stands on, and what crates.txt says of them."""
+    """A sum of all that a program is made of: the text of its crate and of those that it stands on, and the libraries that these name."""
     made = hashlib.sha256()
     for crate in sorted(stands_on(name)):
         made.update(repr((crate, lines_of_crates()[crate])).encode())
-        for part in ("src", "specs", "proofs"):
-            for folder, folders, files in os.walk(top / "crates" / crate / part):
-                folders.sort()
-                for file in sorted(files):
-                    with open(f"{folder}/{file}", "rb") as text:
-                        made.update(f"{folder}/{file}\0".encode().removeprefix(bytes(top)) + hashlib.sha256(text.read()).digest())
+        for file in files(crate):
+            made.update(f"{file.relative_to(top)}\0".encode() + hashlib.sha256(file.read_bytes()).digest())
     return made.hexdigest()
 
 

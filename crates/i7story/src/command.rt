@@ -1,4 +1,5 @@
 //! The program's words.
+use crate::testing::Trying;
 use clap::error::ErrorKind;
 use clap::{Arg, ArgAction, ArgMatches, Command, Error};
 use source_player::ProgramFault;
@@ -14,7 +15,7 @@ pub struct Playing<'a> {
 }
 
 /// What the program is told to do.
-#[derive(Clone, Copy, Debug, Drop)]
+#[derive(Debug, Drop)]
 pub enum Order<'a> {
     Compile {
         source: &'a str,
@@ -24,9 +25,17 @@ pub enum Order<'a> {
         story: &'a str,
         playing: Playing<'a>,
     },
+    Rules {
+        source: &'a str,
+    },
     Run {
         source: &'a str,
         playing: Playing<'a>,
+    },
+    Test {
+        story: &'a str,
+        transcripts: Vec<&'a str>,
+        how: Trying,
     },
 }
 
@@ -76,25 +85,88 @@ fn compiling<'a>(alloc: Global) -> Result<Command<'a>, AllocError> {
         .arg(file(alloc, "STORY", story))
 }
 
-/// The forms of the program.
-fn forms<'a>(alloc: Global) -> Result<Command<'a>, AllocError> {
+/// The form that lists rulebooks.
+fn listing<'a>(alloc: Global) -> Result<Command<'a>, AllocError> {
+    Command::new(alloc, "rules")
+        .about(
+            "Lists the rulebooks of a source, each with its rules in the order in which they are asked and what puts them there",
+        )
+        .after_help("Example: i7story rules stories/ferry.i7")
+        .arg(file(
+            alloc,
+            "SOURCE",
+            "The source, a text as stories/two-rooms.i7 is one; - is standard input",
+        ))
+}
+
+/// The form that tries kept transcripts.
+fn testing<'a>(alloc: Global) -> Result<Command<'a>, AllocError> {
+    let transcripts =
+        "Transcripts that were kept, as --transcript writes them; in front of each may stand lines of comments, `* ` and any text";
+    Command::new(alloc, "test")
+        .about("Compares what a story says with transcripts that were kept")
+        .after_help("Example: i7story test stories/ferry.i7 ferry.txt")
+        .arg(file(alloc, "STORY", "The story file, or its source"))?
+        .arg(file(alloc, "TRANSCRIPT", transcripts).num_args(1..))?
+        .arg(
+            Arg::new(alloc, "all")
+                .long("all")
+                .action(ArgAction::SetTrue)
+                .help("Shows each answer that differs, and not the first of a file alone"),
+        )?
+        .arg(
+            Arg::new(alloc, "bless")
+                .long("bless")
+                .action(ArgAction::SetTrue)
+                .help("Writes a file that differs anew, with what the story says now"),
+        )
+}
+
+/// The form that plays a story file.
+fn play_form<'a>(alloc: Global) -> Result<Command<'a>, AllocError> {
+    let story =
+        "The story file, as the form compile writes it; with --commands, - is standard input";
     let play = Command::new(alloc, "play")
         .about("Plays a story file: reads commands and writes what is answered")
         .after_help("Example: i7story play ferry.story --transcript");
+    with_commands(play, alloc, file(alloc, "STORY", story))
+}
+
+/// The form that plays a source.
+fn run_form<'a>(alloc: Global) -> Result<Command<'a>, AllocError> {
+    let source =
+        "The source, a text as stories/two-rooms.i7 is one; with --commands, - is standard input";
     let run = Command::new(alloc, "run")
         .about("Plays a source, as its story file is played")
         .after_help("Example: i7story run stories/two-rooms.i7");
-    let story =
-        "The story file, as the form compile writes it; with --commands, - is standard input";
-    let source =
-        "The source, a text as stories/two-rooms.i7 is one; with --commands, - is standard input";
-    Command::new(alloc, "i7story")
+    with_commands(run, alloc, file(alloc, "SOURCE", source))
+}
+
+/// The program with one form more. That no other value waits for the form keeps this, and who calls it, short to prove.
+fn with_form<'a>(
+    program: Command<'a>,
+    form: Result<Command<'a>, AllocError>,
+) -> Result<Command<'a>, AllocError> {
+    match form {
+        Ok(form) => program.subcommand(form),
+        Err(refused) => {
+            drop(program);
+            Err(refused)
+        }
+    }
+}
+
+/// The forms of the program.
+fn forms<'a>(alloc: Global) -> Result<Command<'a>, AllocError> {
+    let program = Command::new(alloc, "i7story")
         .about("Compiles and plays stories that are written in a profile of Inform 7")
         .after_help("Example: i7story run stories/two-rooms.i7, and then type: look")
-        .subcommand_required(true)
-        .subcommand(compiling(alloc)?)?
-        .subcommand(with_commands(play, alloc, file(alloc, "STORY", story))?)?
-        .subcommand(with_commands(run, alloc, file(alloc, "SOURCE", source))?)
+        .subcommand_required(true);
+    let program = with_form(program, compiling(alloc))?;
+    let program = with_form(program, play_form(alloc))?;
+    let program = with_form(program, listing(alloc))?;
+    let program = with_form(program, run_form(alloc))?;
+    with_form(program, testing(alloc))
 }
 
 /// How the words of a form tell to play.
@@ -105,9 +177,21 @@ fn playing_in<'a>(found: &ArgMatches<'a>) -> Playing<'a> {
     }
 }
 
-/// The order in the words that were found.
-fn order_in<'a>(matches: &ArgMatches<'a>) -> Option<Order<'a>> {
-    let (name, found) = matches.subcommand()?;
+/// The transcripts that the words of a form name.
+fn transcripts_in<'a>(alloc: Global, found: &ArgMatches<'a>) -> Result<Vec<&'a str>, AllocError> {
+    let mut transcripts = Vec::new(alloc);
+    if let Some(paths) = found.get_strs("TRANSCRIPT") {
+        transcripts.extend_from_slice(paths)?;
+    }
+    Ok(transcripts)
+}
+
+/// The order in the words of a form, if its files are named.
+fn order_of<'a>(
+    name: &str,
+    found: &ArgMatches<'a>,
+    transcripts: Vec<&'a str>,
+) -> Option<Order<'a>> {
     match name {
         "compile" => Some(Order::Compile {
             source: found.get_str("SOURCE")?,
@@ -117,12 +201,32 @@ fn order_in<'a>(matches: &ArgMatches<'a>) -> Option<Order<'a>> {
             story: found.get_str("STORY")?,
             playing: playing_in(found),
         }),
+        "rules" => Some(Order::Rules {
+            source: found.get_str("SOURCE")?,
+        }),
         "run" => Some(Order::Run {
             source: found.get_str("SOURCE")?,
             playing: playing_in(found),
         }),
+        "test" => Some(Order::Test {
+            story: found.get_str("STORY")?,
+            transcripts,
+            how: Trying {
+                all: found.get_flag("all"),
+                bless: found.get_flag("bless"),
+            },
+        }),
         _ => None,
     }
+}
+
+/// The order in the words that were found.
+fn order_in<'a>(alloc: Global, matches: &ArgMatches<'a>) -> Result<Option<Order<'a>>, AllocError> {
+    let Some((name, found)) = matches.subcommand() else {
+        return Ok(None);
+    };
+    let transcripts = transcripts_in(alloc, found)?;
+    Ok(order_of(name, found, transcripts))
 }
 
 /// What clap says of faulty words, or of a request for help.
@@ -154,9 +258,10 @@ pub fn told<'a>(rt: &HostRuntime, words: &'a [String]) -> Result<Order<'a>, Prog
     let alloc = rt.alloc();
     let forms = forms(alloc).map_err(|_| ProgramFault::Memory)?;
     match forms.try_get_matches_from(words) {
-        Ok(matches) => match order_in(&matches) {
-            Some(order) => Ok(order),
-            None => Err(unreadable(alloc)),
+        Ok(matches) => match order_in(alloc, &matches) {
+            Ok(Some(order)) => Ok(order),
+            Ok(None) => Err(unreadable(alloc)),
+            Err(_) => Err(ProgramFault::Memory),
         },
         Err(error) => Err(refusal(alloc, &error)),
     }

@@ -4,15 +4,17 @@ ghost use Rattle.story_player.specs.Watches.{watched_failed};
 
 use crate::command::{Order, Playing, faulty};
 use crate::saving::{is_same_file, save};
+use crate::testing::{Verdict, try_files};
+use rule_listing::{Unlisted, rulebooks_told};
 use source_player::{ProgramFault, SourceRunFault, run_source, run_story};
 use standard_rules::HostTable;
 use std::fs::{self, File};
-use std::io::{self, BufReader, ErrorKind, Read};
+use std::io::{self, BufReader, ErrorKind, Read, Write};
 use story_file::compile;
-use story_player::Watched;
+use story_player::{RunFault, Watched};
 
 /// The path that is standard input where a file is read, and what it leads to.
-const INPUT: &str = "-";
+pub const INPUT: &str = "-";
 
 const STANDARD_INPUT: &str = "/dev/stdin";
 
@@ -26,7 +28,7 @@ fn unread<'a>(path: &'a str, error: &io::Error) -> ProgramFault<'a> {
 }
 
 /// Reads a file whole, or standard input.
-fn bytes_of<'a>(rt: &HostRuntime, path: &'a str) -> Result<Vec<u8>, ProgramFault<'a>> {
+pub fn bytes_of<'a>(rt: &HostRuntime, path: &'a str) -> Result<Vec<u8>, ProgramFault<'a>> {
     let read = if path == INPUT {
         let mut bytes = Vec::new(rt.alloc());
         rt.stdin().read_to_end(&mut bytes).map(|_| bytes)
@@ -60,6 +62,19 @@ fn compile_file<'a>(
         return Err(ProgramFault::CannotWrite(story));
     }
     save(rt, story, compiled.as_slice())
+}
+
+/// Prints the rulebooks of a source file.
+fn list_rules<'a>(rt: &HostRuntime, source: &'a str) -> Result<(), ProgramFault<'a>> {
+    let bytes = bytes_of(rt, source)?;
+    let told = rulebooks_told(rt.alloc(), bytes.as_slice()).map_err(|unlisted| match unlisted {
+        Unlisted::Refused(fault) => ProgramFault::Source(source, fault),
+        Unlisted::Unloaded(fault) => ProgramFault::Story(source, fault),
+        Unlisted::Memory(_) => ProgramFault::Memory,
+    })?;
+    rt.stdout()
+        .write_all(told.as_bytes())
+        .map_err(|_| ProgramFault::Stream(RunFault::Write))
 }
 
 /// The commands that a reader gives, read by the block.
@@ -164,11 +179,20 @@ fn play_file<'a>(
     }
 }
 
-/// Does what the program is told.
-pub fn obey<'a>(rt: &HostRuntime, order: Order<'a>) -> Result<(), ProgramFault<'a>> {
+/// Does what the program is told; only where transcripts are tried anything may differ.
+pub fn obey<'a>(rt: &HostRuntime, order: Order<'a>) -> Result<Verdict, ProgramFault<'a>> {
     match order {
-        Order::Compile { source, story } => compile_file(rt, source, story),
-        Order::Play { story, playing } => play_file(rt, story, Holds::Story, playing),
-        Order::Run { source, playing } => play_file(rt, source, Holds::Source, playing),
+        Order::Compile { source, story } => compile_file(rt, source, story)?,
+        Order::Rules { source } => list_rules(rt, source)?,
+        Order::Play { story, playing } => play_file(rt, story, Holds::Story, playing)?,
+        Order::Run { source, playing } => play_file(rt, source, Holds::Source, playing)?,
+        Order::Test {
+            story,
+            transcripts,
+            how,
+        } => {
+            return try_files(rt, story, transcripts.as_slice(), how);
+        }
     }
+    Ok(Verdict::Same)
 }

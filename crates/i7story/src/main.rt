@@ -3,7 +3,9 @@
 
 mod command;
 mod deeds;
+mod difference;
 mod saving;
+mod testing;
 
 use command::{told, unreadable};
 use deeds::obey;
@@ -11,6 +13,10 @@ use source_player::{ProgramFault, report};
 use std::env;
 use std::io::ErrorKind;
 use std::process::ExitCode;
+use testing::Verdict;
+
+/// The status where an answer isn't as it was kept.
+const DIFFERS: u8 = 6;
 
 /// The program's words.
 fn words_of<'a>(rt: &HostRuntime) -> Result<Vec<String>, ProgramFault<'a>> {
@@ -29,7 +35,8 @@ fn status(rt: &HostRuntime) -> u8 {
         Err(fault) => return report(&fault, &mut rt.stderr()).status,
     };
     match told(rt, words.as_slice()).and_then(|order| obey(rt, order)) {
-        Ok(()) => 0,
+        Ok(Verdict::Same) => 0,
+        Ok(Verdict::Differs) => DIFFERS,
         Err(fault) => report(&fault, &mut rt.stderr()).status,
     }
 }

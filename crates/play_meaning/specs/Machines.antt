@@ -116,11 +116,12 @@ says i s rest text = then_at i s rest (say text s.progress)
 
 -- ---- what is asked
 
-abbrev pub is_asked : Setting → World → ℕ → Asked → ℕ → Bool
-is_asked s w p IsFirst o = is_so s w (Quality p First) o
-is_asked s w p IsSecond o = is_so s w (Quality p SecondName) o
-is_asked s w p IsNotFirst o = is_so s w (NotSo (Quality p First)) o
-is_asked s w p IsNotSecond o = is_so s w (NotSo (Quality p SecondName)) o
+-- nothing has a property in neither sense, and so what denies one of it is true
+abbrev pub is_asked : Setting → World → ℕ → Asked → Option ℕ → Bool
+is_asked s w p IsFirst o = of_some o (is_so s w (Quality p First))
+is_asked s w p IsSecond o = of_some o (is_so s w (Quality p SecondName))
+is_asked s w p IsNotFirst o = not (of_some o (is_so s w (Quality p First)))
+is_asked s w p IsNotSecond o = not (of_some o (is_so s w (Quality p SecondName)))
 
 -- a holder of this relation; one that is no object of the story, which stands in no world of a story, is none
 abbrev pub holder_at : Setting → Rel → Option Place → Option ℕ
@@ -199,7 +200,7 @@ does f s Noun = pushes Noun s s.operands (object_number f.now.noun)
 does f s Second = pushes Second s s.operands (object_number f.now.second)
 does f s Location = pushes Location s s.operands (object_number (location_of s.progress.world))
 does f s (Loop k) = pushes (Loop k) s s.operands (object_number (slice_index_or s.loops k None))
-does f s (Flag p asked) = of_object (Flag p asked) s (is_asked f.telling.setting s.progress.world p asked)
+does f s (Flag p asked) = of_one (Flag p asked) s (λ a. truth_number (is_asked f.telling.setting s.progress.world p asked (object_at a)))
 does f s (Kind kind) = of_object (Kind kind) s (λ o. f.telling.setting.is_of o kind)
 does f s (Held r) = of_two (Held r) s (λ o holder. truth_number (of_some (object_at o) (is_held s.progress.world r (object_at holder))))
 does f s (Holder r) = of_one (Holder r) s (λ o. object_number (holder_by f.telling.setting s.progress.world r (object_at o)))

@@ -60,21 +60,33 @@ fn rule_name(rule: &SourceRule) -> &str {
     }
 }
 
-/// A rule of the author's, whose place is told so if a sentence lists it.
+/// What the head of the author's rule of this number asks, with a comma and a blank in front, if it asks anything.
+fn head_of(alloc: Global, outline: Outline<'_>, number: usize) -> Result<String, AllocError> {
+    let mut told = String::new(alloc);
+    if let Some(head) = outline.names.heads.get(number)
+        && !head.is_empty()
+    {
+        told.push_str(",")?;
+        told.push_str(head.as_str())?;
+    }
+    Ok(told)
+}
+
+/// A rule of the author's: its name, its line and its head, and what puts it there, a sentence that lists it so or what it asks.
 fn own_told(
     alloc: Global,
     outline: Outline<'_>,
+    number: usize,
     rule: &SourceRule,
-    listed: Option<&str>,
 ) -> Result<String, AllocError> {
-    let name = rule_name(rule);
-    let line = rule.line;
-    if let Some(listed) = listed {
-        return format!(in alloc; "{name}, line {line}: {listed}");
+    let (name, line) = (rule_name(rule), rule.line);
+    let head = head_of(alloc, outline, number)?;
+    if let Some(listed) = own_listed(outline, rule) {
+        return format!(in alloc; "{name}, line {line}{head}: {listed}");
     }
     let kinds = outline.tale.declared.kinds.as_slice();
     let key = specificity_told(alloc, kinds, &rule.rule.head)?;
-    format!(in alloc; "{name}, line {line}: {key}")
+    format!(in alloc; "{name}, line {line}{head}: {key}")
 }
 
 /// A standard rule: each asks its action alone, and so stands behind the more specific ones, unless a sentence lists it.
@@ -105,7 +117,7 @@ fn rule_told(alloc: Global, outline: Outline<'_>, number: usize) -> Result<Strin
     let own = number.saturating_sub(STANDARD_NAMES.len());
     match outline.rules.get(own) {
         None => format!(in alloc; "?"),
-        Some(rule) => own_told(alloc, outline, rule, own_listed(outline, rule)),
+        Some(rule) => own_told(alloc, outline, own, rule),
     }
 }
 

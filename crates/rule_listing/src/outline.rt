@@ -1,4 +1,5 @@
 //! What is listed of a source: its story, which holds the order, and its rules by their names and lines.
+use crate::head::heads_of;
 use crate::listing::books_told;
 use crate::placing::{Placing, placings_of};
 use crate::unlisted::Unlisted;
@@ -13,9 +14,9 @@ use object_words::Strings;
 use std::alloc::{AllocError, Global};
 use story_file::compile;
 use story_format::{Story, load};
-use world_meaning::{Tale, TextBytes};
+use world_meaning::{Fault, FaultCode, Tale, TextBytes};
 
-/// The names that the sentences of a source give.
+/// The names that the sentences of a source give, and what they say of rules.
 #[derive(Drop)]
 pub struct Names {
     /// Those of the author's rulebooks, by number.
@@ -24,6 +25,8 @@ pub struct Names {
     pub scenes: Vec<TextBytes>,
     /// Where sentences list rules, in their order.
     pub placings: Vec<Placing>,
+    /// What the heads of the author's rules ask, in the order of their sentences.
+    pub heads: Vec<String>,
 }
 
 /// A source's story and rules.
@@ -65,15 +68,17 @@ fn rulebooks_of(alloc: Global, claimed: &Claimed<'_>) -> Result<Strings, AllocEr
     Ok(names.rulebooks)
 }
 
-/// The names that sentences give.
+/// The names that sentences give, and what they say of rules.
 fn names_of(alloc: Global, claimed: &Claimed<'_>) -> Result<Names, AllocError> {
     let rulebooks = rulebooks_of(alloc, claimed)?;
     let scenes = scenes_of(alloc, claimed.sentences())?;
     let placings = placings_of(alloc, claimed.sentences())?;
+    let heads = heads_of(alloc, claimed.sentences())?;
     Ok(Names {
         rulebooks,
         scenes,
         placings,
+        heads,
     })
 }
 
@@ -84,8 +89,12 @@ fn rules_of(
     claimed: &Claimed<'_>,
 ) -> Result<Vec<SourceRule>, Unlisted> {
     let names = names_in(alloc, claimed)?;
+    // a source that is compiled has no more
     if names.rulebooks.len() > 100 || names.scenes > 50 {
-        return Err(Unlisted::TooManyNames);
+        return Err(Unlisted::Refused(Fault {
+            code: FaultCode::TooMany,
+            line: 1,
+        }));
     }
     match resolution_of(alloc, &names, tale, claimed.sentences())? {
         Resolution::Says(resolved) => Ok(resolved.rules),
@@ -113,8 +122,8 @@ fn told_with(alloc: Global, sentences: &[Sentence], story: &Story) -> Result<Str
     told_by(alloc, &claimed, story)
 }
 
-/// The rulebooks of a source, if it is accepted.
-pub fn told_of(alloc: Global, source: &[u8]) -> Result<String, Unlisted> {
+/// The rulebooks that list rules, each with its rules in the order in which they are asked, a line each; where the source is refused, why.
+pub fn rulebooks_told(alloc: Global, source: &[u8]) -> Result<String, Unlisted> {
     let story = story_of(alloc, source)?;
     let sentences = sentences_of(alloc, source)?;
     told_with(alloc, sentences.as_slice(), &story)

@@ -10,10 +10,9 @@ pub enum Unlisted {
     /// The source is refused.
     #[error("{0}")]
     Refused(#[from] Fault),
-    #[error("the story isn't loaded: {0}")]
+    /// The story that it is compiled to isn't loaded.
+    #[error("{0}")]
     Unloaded(#[from] LoadFault),
     #[error("out of memory")]
     Memory(#[from(alloc)] AllocError),
-    #[error("more rulebooks or scenes than there may be")]
-    TooManyNames,
 }

@@ -30,13 +30,17 @@ object_known w now loops i = None
 
 -- whether an object is what is asked
 abbrev pub holds_of : Setting → World → Instruction → ℕ → Bool
-holds_of s w (Flag p side) o = is_asked s w p side o
 holds_of s w (Kind kind) o = s.is_of o kind
 holds_of s w Visible o = is_visible s w o
 holds_of s w Touchable o = is_touchable s w o
 holds_of s w HasDescription o = s.has_description o
 holds_of s w (Valued q value) o = has_value s w q value o
 holds_of s w i o = false
+
+-- a truth, of one object
+abbrev pub of_object : Setting → World → Instruction → Option ℕ → ℤ
+of_object s w (Flag p asked) o = truth_number (is_asked s w p asked o)
+of_object s w i o = truth_number (of_some o (holds_of s w i))
 
 -- a truth, of two numbers or truths
 abbrev pub of_numbers : Instruction → ℤ → ℤ → ℤ

@@ -5,10 +5,11 @@ ghost use Rattle.play_meaning.specs.Machines.{holder_by, is_asked, truth_number}
 ghost use Rattle.play_meaning.specs.Seeing.{encloses};
 ghost use Rattle.play_meaning.specs.Settings.{direction_kind, room_kind};
 ghost use Rattle.play_meaning.specs.Truth.{of_both, of_some};
-ghost use Rattle.play_meaning.specs.Values.{beyond, has_value, is_held, number_at};
+ghost use Rattle.play_meaning.specs.Trees.{First, Quality, Second};
+ghost use Rattle.play_meaning.specs.Values.{beyond, has_value, is_held, is_so, number_at};
 ghost use Rattle.world_meaning.specs.Relations.{relation_number};
 ghost use Rattle.play_meaning.specs.Worlds.{location_of};
-ghost use Rattle.story_code.specs.Asking.{beyond_in, calculated, holds_of, known, object_known, of_numbers, of_objects};
+ghost use Rattle.story_code.specs.Asking.{beyond_in, calculated, holds_of, known, object_known, of_numbers, of_object, of_objects};
 
 use crate::number::{is_true, truth_number};
 use crate::turning::Turning;
@@ -66,18 +67,37 @@ pub fn number_at<G: Ground>(ground: &G, property: u8, object: Option<ObjNo>) -> 
     }
 }
 
-/// Whether a property is asked so of an object rightly: one that its kind lacks is neither true nor false.
+/// Whether something has a property in its first sense: nothing hasn't, nor an object whose kind lacks it.
 #[tactic(auto, unfolding(play_meaning::specs::Values::is_so))]
-fn is_asked<G: Ground>(ground: &G, property: u8, asked: Asked, object: ObjNo) -> bool
+fn is_first<G: Ground>(ground: &G, property: u8, object: Option<ObjNo>) -> bool
+    ensures { result ≡ of_some object (is_so (G.fixed ground.now).setting (G.world ground.now) (Quality property First)) }
+{
+    match object {
+        Some(object) => ground.has_flag(object, property) && ground.flag(object, property),
+        None => false,
+    }
+}
+
+/// Whether something has a property in its second sense: nothing hasn't, nor an object whose kind lacks it.
+#[tactic(auto, unfolding(play_meaning::specs::Values::is_so))]
+fn is_second<G: Ground>(ground: &G, property: u8, object: Option<ObjNo>) -> bool
+    ensures { result ≡ of_some object (is_so (G.fixed ground.now).setting (G.world ground.now) (Quality property Second)) }
+{
+    match object {
+        Some(object) => ground.has_flag(object, property) && !ground.flag(object, property),
+        None => false,
+    }
+}
+
+/// Whether a property is asked so of something rightly.
+fn is_asked<G: Ground>(ground: &G, property: u8, asked: Asked, object: Option<ObjNo>) -> bool
     ensures { result ≡ is_asked (G.fixed ground.now).setting (G.world ground.now) property asked object }
 {
-    let is_had = ground.has_flag(object, property);
-    let value = ground.flag(object, property);
     match asked {
-        Asked::IsFirst => is_had && value,
-        Asked::IsSecond => is_had && !value,
-        Asked::IsNotFirst => !(is_had && value),
-        Asked::IsNotSecond => !(is_had && !value),
+        Asked::IsFirst => is_first(ground, property, object),
+        Asked::IsSecond => is_second(ground, property, object),
+        Asked::IsNotFirst => !is_first(ground, property, object),
+        Asked::IsNotSecond => !is_second(ground, property, object),
     }
 }
 
@@ -96,7 +116,6 @@ fn holds_of<G: Ground>(ground: &G, instruction: Instruction, object: ObjNo) -> b
     ensures { result ≡ holds_of (G.fixed ground.now).setting (G.world ground.now) instruction object }
 {
     match instruction {
-        Instruction::Flag(property, asked) => is_asked(ground, property, asked, object),
         Instruction::Kind(kind) => ground.is_of(object, KindNo::new(kind)),
         Instruction::Visible => ground.visible(object),
         Instruction::Touchable => ground.touchable(object),
@@ -106,10 +125,13 @@ fn holds_of<G: Ground>(ground: &G, instruction: Instruction, object: ObjNo) -> b
     }
 }
 
-/// Whether something is what an instruction asks; nothing isn't.
-pub fn holds_of_some<G: Ground>(ground: &G, instruction: Instruction, object: Option<ObjNo>) -> i32
-    ensures { result ≡ truth_number (of_some object (holds_of (G.fixed ground.now).setting (G.world ground.now) instruction)) }
+/// Whether something is what an instruction asks; nothing isn't, unless that is to deny a property.
+pub fn of_object<G: Ground>(ground: &G, instruction: Instruction, object: Option<ObjNo>) -> i32
+    ensures { result ≡ of_object (G.fixed ground.now).setting (G.world ground.now) instruction object }
 {
+    if let Instruction::Flag(property, asked) = instruction {
+        return truth_number(is_asked(ground, property, asked, object));
+    }
     match object {
         Some(object) => truth_number(holds_of(ground, instruction, object)),
         None => truth_number(false),

@@ -7,7 +7,7 @@ ghost use Rattle.play_meaning.specs.declared.operand.Counts.{Counts};
 ghost use Rattle.story_code.specs.Runs.{IsServed, Proceeds};
 
 use crate::asking::{
-    beyond_in, calculated, holder_by, holds_of_some, known, number_at, object_known, of_numbers,
+    beyond_in, calculated, holder_by, known, number_at, object_known, of_numbers, of_object,
     of_objects,
 };
 use crate::number::{in_range, is_true, object_at, object_number, truth_number};
@@ -78,7 +78,7 @@ fn ask_one<G: Ground>(
         | Instruction::HasDescription
         | Instruction::Valued(_, _) => {
             let object = object_at(state.take());
-            state.push(holds_of_some(ground, instruction, object));
+            state.push(of_object(ground, instruction, object));
         }
         Instruction::Holder(relation) => {
             let object = object_at(state.take());

@@ -20,11 +20,11 @@ abbrev pub AreMarks : ℕ → List ℕ → Type 0
 AreMarks last [] = Unit {0}
 AreMarks last (mark ∷ marks) = (mark ≤ last) × AreMarks mark marks
 
-marks_so : (last : ℕ) (marks : List ℕ) → are_marks last marks ≡ true → AreMarks last marks
+pub marks_so : (last : ℕ) (marks : List ℕ) → are_marks last marks ≡ true → AreMarks last marks
 marks_so last [] are = tt
 marks_so last (mark ∷ marks) are = let both = and_parts (nat_le mark last) (are_marks mark marks) are in (leb-true mark last both.0, marks_so mark marks both.1)
 
-so_marks : (last : ℕ) (marks : List ℕ) → AreMarks last marks → are_marks last marks ≡ true
+pub so_marks : (last : ℕ) (marks : List ℕ) → AreMarks last marks → are_marks last marks ≡ true
 so_marks last [] are = refl
 so_marks last (mark ∷ marks) are = rw (le-leb mark last are.0, so_marks mark marks are.1) refl
 

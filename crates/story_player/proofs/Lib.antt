@@ -16,3 +16,4 @@ pub mod Timely
 pub mod Transcripts
 pub mod TypedLines
 pub mod Writes
+pub mod ShorterLogs

@@ -1,5 +1,5 @@
 -- The world of a session with its log, and the places of the log to which turns are taken back.
-use Rattle.std.specs.Prelude.{◌≡◌, ℕ, Bool, true, ◌&&◌, nat_le, List, [], ◌∷◌, map, Option, None, Some, slice_index_or}
+use Rattle.std.specs.Prelude.{◌≡◌, ℕ, Bool, true, ◌&&◌, nat_le, List, [], ◌∷◌, length, map, Option, None, Some, slice_index_or}
 use Rattle.play_meaning.specs.Worlds.{World}
 use Rattle.world_store.specs.StoryWorlds.{StoryWorld, worlds}
 use Rattle.action_stages.specs.Returning.{ComesBehind}
@@ -30,3 +30,10 @@ are_marks last (mark ∷ marks) = nat_le mark last && are_marks mark marks
 -- what was done on the world has lost nothing of its log
 abbrev pub HasGoneOn : Option StoryWorld → Option StoryWorld → Type 0
 HasGoneOn before now = (s t : StoryWorld) → before ≡ Some s → now ≡ Some t → ComesBehind s t
+
+-- what was let go of in front of a log changes neither the world nor those at the places, which may be told anew
+pub record IsShortened (s : StoryWorld) (marks : List ℕ) (t : StoryWorld) (told : List ℕ) : Type 0 where
+  pub tables : t.tables ≡ s.tables
+  pub world : t.world ≡ s.world
+  pub kept : kept_in (Some t) told ≡ kept_in (Some s) marks
+  pub places : are_marks (length t.past) told ≡ true

@@ -7,6 +7,7 @@ mod commands;
 mod deed;
 mod fault;
 mod in_play;
+mod letting_go;
 mod line_text;
 mod playing;
 mod reading;

@@ -142,7 +142,9 @@ impl Session {
         ensures story { story_of self.new ≡ story_of self.old }
     {
         text.clear();
-        self.answer_parts(parts(typed), text)
+        let kind = self.answer_parts(parts(typed), text);
+        self.let_go();
+        kind
     }
 
     /// Answers a line: its commands, one behind the other, each in the world that the one before it left. Behind what does nothing,

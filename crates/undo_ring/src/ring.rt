@@ -1,5 +1,5 @@
 //! A ring of what is kept: what comes first in goes first out, and what was kept last is taken back first.
-ghost use Rattle.std.specs.Prelude.{◌≡◌, ◌∷◌, [], IfOk, drop, slice_get, take};
+ghost use Rattle.std.specs.Prelude.{◌≡◌, ◌≤◌, ◌-◌, ◌∷◌, [], IfOk, drop, length, option_copied, slice_get, take};
 
 use circular_buffer::HeapCircularBuffer;
 use std::alloc::{AllocError, Global};
@@ -50,5 +50,20 @@ impl<T: Drop> Ring<T> {
         ensures rest { self.new ≡ drop 1 self.old }
     {
         self.kept.pop_front()
+    }
+
+    /// How many are kept.
+    pub fn len(&self) -> usize
+        ensures len { result ≡ length self.now }
+        ensures most { result ≤ 8 }
+    {
+        self.kept.len()
+    }
+
+    /// The oldest that is kept, if any is.
+    pub fn oldest(&self) -> Option<&T>
+        ensures { option_copied result ≡ slice_get self.now (length self.now - 1) }
+    {
+        self.kept.back()
     }
 }

@@ -13,3 +13,4 @@ pub mod Atlases
 pub mod Pasts
 pub mod Reverted
 pub mod Logged
+pub mod LetGo

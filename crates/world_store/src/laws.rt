@@ -1,5 +1,5 @@
 //! What holds of every story in play, of its worlds and their changes, and of the dark.
-ghost use Rattle.std.specs.Prelude.{◌≡◌, ◌≢◌, ◌⊎◌, ◌<◌, ◌++◌, ℕ, ℤ, Bool, true, false, List, Option, Some, length};
+ghost use Rattle.std.specs.Prelude.{◌≡◌, ◌≢◌, ◌⊎◌, ◌<◌, ◌≤◌, ◌-◌, ◌++◌, ℕ, ℤ, Bool, true, false, List, Option, Some, length};
 ghost use Rattle.play_meaning.specs.PlainTales.{story_of_script};
 ghost use Rattle.play_meaning.specs.Seeing.{encloses, has_light, is_visible, root_of};
 ghost use Rattle.play_meaning.specs.Settings.{Setting, direction_kind, thing_kind};
@@ -16,7 +16,7 @@ ghost use Rattle.world_meaning.specs.declared.tale.Tale.{Tale};
 ghost use Rattle.world_store.specs.AskedChanges.{AreSetters, Asked, all_changed};
 ghost use Rattle.world_store.specs.StoryGames.{plain_story};
 ghost use Rattle.world_store.specs.StorySettings.{setting_of};
-ghost use Rattle.world_store.specs.StoryWorlds.{AreKept, StoryWorld, reverted, worlds};
+ghost use Rattle.world_store.specs.StoryWorlds.{AreKept, StoryWorld, let_go, reverted, worlds};
 
 use crate::World;
 use world_meaning::ObjNo;
@@ -57,6 +57,11 @@ pub fn marks_bring_back_the_world()
     ensures added { (old new : StoryWorld) (more : List PlayWorld) → new.tables ≡ old.tables → worlds new ≡ worlds old ++ more
         → reverted (length old.past) new ≡ old }
     ensures asked { (s : StoryWorld) (changes : List Asked) → AreSetters changes s → reverted (length s.past) (all_changed changes s) ≡ s }
+{}
+
+/// Where the changes in front of a mark are let go of, a later mark brings back the same world.
+pub fn what_is_let_go_of_changes_nothing()
+    ensures { (s : StoryWorld) (first mark : ℕ) → first ≤ mark → mark ≤ length s.past → reverted (mark - first) (let_go first s) ≡ let_go first (reverted mark s) }
 {}
 
 /// In the dark nothing is visible of things but the player and what the player holds.

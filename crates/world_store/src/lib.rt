@@ -19,8 +19,8 @@ mod world;
 pub use bound::Bound;
 pub use laws::{
     changes_leave_others, directions_are_directions, marks_bring_back_the_world,
-    tables_give_their_tales_game, the_dark_hides, what_is_set_is_read, worlds_are_of_their_stories,
-    worlds_are_whole,
+    tables_give_their_tales_game, the_dark_hides, what_is_let_go_of_changes_nothing,
+    what_is_set_is_read, worlds_are_of_their_stories, worlds_are_whole,
 };
 pub use marks::Mark;
 pub use play_meaning::WorldFault;

@@ -1,6 +1,6 @@
 //! Marks in the log of a world, to which it is turned back.
-ghost use Rattle.std.specs.Prelude.{◌≡◌, ◌↔◌, IsTrue, ◌≤◌, ◌<◌, ◌∷◌, ◌++◌, [], length};
-ghost use Rattle.world_store.specs.StoryWorlds.{reverted};
+ghost use Rattle.std.specs.Prelude.{◌≡◌, ◌↔◌, IsTrue, ◌≤◌, ◌<◌, ◌-◌, ◌∷◌, ◌++◌, [], length};
+ghost use Rattle.world_store.specs.StoryWorlds.{let_go, reverted};
 
 use crate::World;
 use std::marker::Model;
@@ -25,6 +25,18 @@ impl Mark {
         ensures { IsTrue result ↔ self ≤ other }
     {
         self.0 <= other.0
+    }
+
+    /// Where it is once the changes in front of an earlier mark are let go of.
+    pub fn behind(self, first: Mark) -> Mark
+        ensures { result ≡ self - first }
+    {
+        Mark(self.0.saturating_sub(first.0))
+    }
+
+    /// Whether more changes stand in front of it than between it and a later mark.
+    pub fn is_past_half(self, last: Mark) -> bool {
+        self.0 > last.0.saturating_sub(self.0)
     }
 }
 
@@ -55,5 +67,14 @@ impl World {
         while self.log.len() > mark.0 {
             self.undo_last();
         }
+    }
+
+    /// Lets go of the changes in front of a mark, to which nothing is turned back any more; a later mark is then told by `Mark::behind`.
+    /// It takes no memory, and as long as the log is.
+    pub fn let_go(&mut self, mark: Mark)
+        requires { mark ≤ length self.old.past }
+        ensures { self.new ≡ let_go mark self.old }
+    {
+        self.log.drop_front(mark.0);
     }
 }

@@ -1,5 +1,5 @@
 //! What changes of a world replaced, written one behind the other.
-ghost use Rattle.std.specs.Prelude.{◌≡◌, ◌∷◌, ◌++◌, [], MatchOption, MatchResult, length};
+ghost use Rattle.std.specs.Prelude.{◌≡◌, ◌≤◌, ◌∷◌, ◌++◌, [], MatchOption, MatchResult, drop, length};
 
 use play_meaning::SceneNow;
 use std::alloc::Global;
@@ -95,5 +95,15 @@ impl Log {
         ensures { MatchOption result (self.old ≡ []) (λ was. self.old ≡ self.new ++ was ∷ []) }
     {
         self.entries.pop()
+    }
+
+    /// Drops so many changes from the front.
+    pub(crate) fn drop_front(&mut self, count: usize)
+        requires { count ≤ length self.old }
+        ensures { self.new ≡ drop count self.old }
+    {
+        let left = self.entries.len() - count;
+        self.entries.rotate_left(count);
+        self.entries.truncate(left);
     }
 }

@@ -1,0 +1,9 @@
+//! Tests of the libraries by their own calls: the tree of objects, the parser of commands, the order of rules, and the player.
+#[cfg(test)]
+mod commands;
+#[cfg(test)]
+mod objects;
+#[cfg(test)]
+mod order;
+#[cfg(test)]
+mod player;
