@@ -28,13 +28,18 @@ fn words_of<'a>(rt: &HostRuntime) -> Result<Vec<String>, ProgramFault<'a>> {
     }
 }
 
+/// Does what the words ask.
+fn obeyed<'a>(rt: &HostRuntime, words: &'a [String]) -> Result<Verdict, ProgramFault<'a>> {
+    obey(rt, told(rt, words)?)
+}
+
 /// Does what the words ask, and answers the status.
 fn status(rt: &HostRuntime) -> u8 {
     let words = match words_of(rt) {
         Ok(words) => words,
         Err(fault) => return report(&fault, &mut rt.stderr()).status,
     };
-    match told(rt, words.as_slice()).and_then(|order| obey(rt, order)) {
+    match obeyed(rt, words.as_slice()) {
         Ok(Verdict::Same) => 0,
         Ok(Verdict::Differs) => DIFFERS,
         Err(fault) => report(&fault, &mut rt.stderr()).status,
