@@ -7,7 +7,6 @@ pub mod Heads
 pub mod Lists
 pub mod NoTables
 pub mod Onward
-pub mod Parted
 pub mod Said
 pub mod SaidStrings
 pub mod SceneCodes

@@ -59,8 +59,8 @@ OriginsAreTables = (z : Counts) (string : List ℕ → ℕ) (origins : List Orig
 
 -- nothing but memory is told of why they have no table
 abbrev pub NeverTableAndNone : Type 0
-NeverTableAndNone = (z : Counts) (string : List ℕ → ℕ) (texts : List Text) (rules : List Rule) (scenes : List Scene) (fault : TableFault)
-    → AllFit z string (origins_of texts rules scenes) → CanBeSaid string (origins_of texts rules scenes) → HaveNoTable z string texts rules scenes fault → fault ≡ Memory
+NeverTableAndNone = (z : Counts) (string : List ℕ → ℕ) (origins : List Origin) (fault : TableFault)
+    → AllFit z string origins → CanBeSaid string origins → HaveNoTable z string origins fault → fault ≡ Memory
 
 -- among the codes of a story, where each string stands by its number, the code of a text's number says it
 abbrev pub DescriptionsAreSaid : Type 0

@@ -5,6 +5,7 @@ ghost use Rattle.play_meaning.specs.Meant.{body_meant, condition_meant, text_mea
 ghost use Rattle.code_table.specs.Coding.{AddsTo, HasNoCode, not_emitted, number_behind};
 ghost use Rattle.code_table.specs.Origins.{Asks, Describes, Does};
 
+use crate::fault::TableFault;
 use object_words::Strings;
 use play_meaning::Counts;
 use play_meaning::tree::{Condition, Phrase, Text};
@@ -17,16 +18,6 @@ use world_meaning::TextBytes;
 pub struct Coded {
     pub codes: Vec<TextBytes>,
     pub tests: Vec<TextBytes>,
-}
-
-/// Why a code isn't added.
-#[derive(Clone, Copy)]
-pub enum NotAdded {
-    /// What it is of doesn't fit, or bytes can't say it and the tests that it names.
-    TooLong,
-    /// Two bytes don't say the number of its first test.
-    TooMany,
-    Memory,
 }
 
 /// The number behind so many heads and tests, if two bytes say it.
@@ -52,12 +43,12 @@ fn keep(out: &mut Coded, emitted: Vec<TextBytes>) -> Result<(), AllocError>
 }
 
 /// Why a code isn't added that isn't emitted.
-fn not_emitted(fault: EmitFault) -> NotAdded
+fn not_emitted(fault: EmitFault) -> TableFault
     ensures { result ≡ not_emitted fault }
 {
     match fault {
-        EmitFault::TooLong => NotAdded::TooLong,
-        EmitFault::Memory => NotAdded::Memory,
+        EmitFault::TooLong => TableFault::TooLong,
+        EmitFault::Memory => TableFault::Memory,
     }
 }
 
@@ -70,17 +61,17 @@ pub fn add_text(
     out: &mut Coded,
     heads: usize,
     text: &Text,
-) -> Result<(), NotAdded>
+) -> Result<(), TableFault>
     ensures coded { OnOk result (AddsTo counts.now (number_in strings.now) heads (Describes (text_meant text.now)) out.old out.new) }
     ensures none { IfErr result (HasNoCode counts.now (number_in strings.now) (heads + length out.old.tests.items) (Describes (text_meant text.now))) }
 {
     let Some(first) = number_behind(heads, out.tests.len()) else {
-        return Err(NotAdded::TooMany);
+        return Err(TableFault::TooMany);
     };
     match description_codes(alloc, counts, strings, first, text) {
         Ok(emitted) => match keep(out, emitted) {
             Ok(()) => Ok(()),
-            Err(_) => Err(NotAdded::Memory),
+            Err(_) => Err(TableFault::Memory),
         },
         Err(fault) => Err(not_emitted(fault)),
     }
@@ -93,17 +84,17 @@ pub fn add_condition(
     out: &mut Coded,
     heads: usize,
     condition: &Condition,
-) -> Result<(), NotAdded>
+) -> Result<(), TableFault>
     ensures coded { (string : List ℕ → ℕ) → OnOk result (AddsTo counts.now string heads (Asks (condition_meant condition.now)) out.old out.new) }
     ensures none { (string : List ℕ → ℕ) → IfErr result (HasNoCode counts.now string (heads + length out.old.tests.items) (Asks (condition_meant condition.now))) }
 {
     let Some(first) = number_behind(heads, out.tests.len()) else {
-        return Err(NotAdded::TooMany);
+        return Err(TableFault::TooMany);
     };
     match condition_codes(alloc, counts, first, condition) {
         Ok(emitted) => match keep(out, emitted) {
             Ok(()) => Ok(()),
-            Err(_) => Err(NotAdded::Memory),
+            Err(_) => Err(TableFault::Memory),
         },
         Err(fault) => Err(not_emitted(fault)),
     }
@@ -117,17 +108,17 @@ pub fn add_body(
     out: &mut Coded,
     heads: usize,
     body: &[Phrase],
-) -> Result<(), NotAdded>
+) -> Result<(), TableFault>
     ensures coded { OnOk result (AddsTo counts.now (number_in strings.now) heads (Does (body_meant body.now)) out.old out.new) }
     ensures none { IfErr result (HasNoCode counts.now (number_in strings.now) (heads + length out.old.tests.items) (Does (body_meant body.now))) }
 {
     let Some(first) = number_behind(heads, out.tests.len()) else {
-        return Err(NotAdded::TooMany);
+        return Err(TableFault::TooMany);
     };
     match body_codes(alloc, counts, strings, first, body) {
         Ok(emitted) => match keep(out, emitted) {
             Ok(()) => Ok(()),
-            Err(_) => Err(NotAdded::Memory),
+            Err(_) => Err(TableFault::Memory),
         },
         Err(fault) => Err(not_emitted(fault)),
     }

@@ -1,15 +1,15 @@
 //! The codes of texts, rules and scenes, one behind the other.
-ghost use Rattle.std.specs.Prelude.{◌≡◌, ◌+◌, ◌≤◌, ℕ, IfErr, IfOk, length, List, map, MatchOption, OnOk};
+ghost use Rattle.std.specs.Prelude.{◌≡◌, ◌+◌, ◌≤◌, ℕ, [], IfErr, IfOk, length, List, map, MatchOption, OnOk};
 ghost use Rattle.object_words.specs.Mentions.{number_in};
 ghost use Rattle.play_meaning.specs.Meant.{condition_meant, text_meant};
 ghost use Rattle.play_meaning.specs.Patterns.{rule_meant};
 ghost use Rattle.play_meaning.specs.ScenesMeant.{scene_meant};
 ghost use Rattle.play_meaning.specs.TranslatedScripts.{in_list};
 ghost use Rattle.std.specs.Option.{option_map};
-ghost use Rattle.code_table.specs.Coding.{AddAllTo, AreCoded, HaveNone, RulesHaveNone, ScenesHaveNone, StopIn, TextsHaveNone, rule_fault, scene_fault, text_fault};
+ghost use Rattle.code_table.specs.Coding.{AddAllTo, AreCoded, HaveNone, StopIn};
 ghost use Rattle.code_table.specs.Origins.{Asks, Describes, origins_in_rules, origins_in_scenes, origins_meant, origins_of_rule, origins_of_scene};
 
-use crate::adding::{Coded, NotAdded, add_body, add_condition, add_text, number_behind};
+use crate::adding::{Coded, add_body, add_condition, add_text, number_behind};
 use crate::fault::TableFault;
 use object_words::Strings;
 use play_meaning::Counts;
@@ -86,17 +86,6 @@ pub fn heads_counted(texts: &[Text], rules: &[MeantRule], scenes: &[MeantScene])
     }
 }
 
-/// Why there is no table where the text of this number isn't coded.
-fn text_fault(number: usize, fault: NotAdded) -> TableFault
-    ensures { result ≡ text_fault number fault }
-{
-    match fault {
-        NotAdded::TooLong => TableFault::LongText(number),
-        NotAdded::TooMany => TableFault::TooMany,
-        NotAdded::Memory => TableFault::Memory,
-    }
-}
-
 /// The bytes of the codes that say texts, in turn, and of the tests that these name, where so many codes, `heads`, stand in
 /// front of the first test.
 fn texts_coded(
@@ -107,7 +96,7 @@ fn texts_coded(
     texts: &[Text],
 ) -> Result<Coded, TableFault>
     ensures coded { IfOk result (λ out. AreCoded counts.now (number_in strings.now) heads (map Describes (map text_meant texts.now)) out.codes.items out.tests.items) }
-    ensures none { IfErr result (TextsHaveNone counts.now (number_in strings.now) heads (map text_meant texts.now)) }
+    ensures none { IfErr result (StopIn counts.now (number_in strings.now) heads (map Describes (map text_meant texts.now)) [] []) }
 {
     let mut out = Coded {
         codes: Vec::new(alloc),
@@ -115,25 +104,13 @@ fn texts_coded(
     };
     let mut rest = texts;
     while let [text, after @ ..] = rest {
-        let number = out.codes.len();
         match add_text(alloc, counts, strings, &mut out, heads, text) {
             Ok(()) => {}
-            Err(fault) => return Err(text_fault(number, fault)),
+            Err(fault) => return Err(fault),
         }
         rest = after;
     }
     Ok(out)
-}
-
-/// Why there is no table where the rule of this number isn't coded.
-fn rule_fault(number: usize, fault: NotAdded) -> TableFault
-    ensures { result ≡ rule_fault number fault }
-{
-    match fault {
-        NotAdded::TooLong => TableFault::LongRule(number),
-        NotAdded::TooMany => TableFault::TooMany,
-        NotAdded::Memory => TableFault::Memory,
-    }
 }
 
 /// Adds the bytes of the code of a rule's condition, if it has one, and of its body's, and those of the tests that they name.
@@ -144,7 +121,7 @@ fn add_rule(
     out: &mut Coded,
     heads: usize,
     rule: &MeantRule,
-) -> Result<(), NotAdded>
+) -> Result<(), TableFault>
     ensures coded { OnOk result (AddAllTo counts.now (number_in strings.now) heads (origins_of_rule (rule_meant rule.now)) out.old out.new) }
     ensures none { IfErr result (StopIn counts.now (number_in strings.now) heads (origins_of_rule (rule_meant rule.now)) out.old.codes.items out.old.tests.items) }
 {
@@ -167,28 +144,17 @@ fn add_rules(
     rules: &[MeantRule],
 ) -> Result<(), TableFault>
     ensures coded { OnOk result (AddAllTo counts.now (number_in strings.now) heads (origins_in_rules rules.now) out.old out.new) }
-    ensures none { IfErr result (RulesHaveNone counts.now (number_in strings.now) heads (map rule_meant rules.now) out.old.codes.items out.old.tests.items) }
+    ensures none { IfErr result (StopIn counts.now (number_in strings.now) heads (origins_in_rules rules.now) out.old.codes.items out.old.tests.items) }
 {
     let mut rest = rules;
     while let [rule, after @ ..] = rest {
         match add_rule(alloc, counts, strings, out, heads, rule) {
             Ok(()) => {}
-            Err(fault) => return Err(rule_fault(rules.len() - rest.len(), fault)),
+            Err(fault) => return Err(fault),
         }
         rest = after;
     }
     Ok(())
-}
-
-/// Why there is no table where the scene of this number isn't coded.
-fn scene_fault(number: usize, fault: NotAdded) -> TableFault
-    ensures { result ≡ scene_fault number fault }
-{
-    match fault {
-        NotAdded::TooLong => TableFault::LongScene(number),
-        NotAdded::TooMany => TableFault::TooMany,
-        NotAdded::Memory => TableFault::Memory,
-    }
 }
 
 /// Adds the bytes of the code of a condition, if there is one, and those of the tests that it names.
@@ -198,7 +164,7 @@ fn add_asked(
     out: &mut Coded,
     heads: usize,
     asked: &Option<Condition>,
-) -> Result<(), NotAdded>
+) -> Result<(), TableFault>
     ensures coded { (string : List ℕ → ℕ) → OnOk result (AddAllTo counts.now string heads (map Asks (in_list (option_map condition_meant asked.now))) out.old out.new) }
     ensures none { (string : List ℕ → ℕ) → IfErr result (StopIn counts.now string heads (map Asks (in_list (option_map condition_meant asked.now))) out.old.codes.items out.old.tests.items) }
 {
@@ -215,7 +181,7 @@ fn add_scene(
     out: &mut Coded,
     heads: usize,
     scene: &MeantScene,
-) -> Result<(), NotAdded>
+) -> Result<(), TableFault>
     ensures coded { (string : List ℕ → ℕ) → OnOk result (AddAllTo counts.now string heads (origins_of_scene (scene_meant scene.now)) out.old out.new) }
     ensures none { (string : List ℕ → ℕ) → IfErr result (StopIn counts.now string heads (origins_of_scene (scene_meant scene.now)) out.old.codes.items out.old.tests.items) }
 {
@@ -234,13 +200,13 @@ fn add_scenes(
     scenes: &[MeantScene],
 ) -> Result<(), TableFault>
     ensures coded { (string : List ℕ → ℕ) → OnOk result (AddAllTo counts.now string heads (origins_in_scenes scenes.now) out.old out.new) }
-    ensures none { (string : List ℕ → ℕ) → IfErr result (ScenesHaveNone counts.now string heads (map scene_meant scenes.now) out.old.codes.items out.old.tests.items) }
+    ensures none { (string : List ℕ → ℕ) → IfErr result (StopIn counts.now string heads (origins_in_scenes scenes.now) out.old.codes.items out.old.tests.items) }
 {
     let mut rest = scenes;
     while let [scene, after @ ..] = rest {
         match add_scene(alloc, counts, out, heads, scene) {
             Ok(()) => {}
-            Err(fault) => return Err(scene_fault(scenes.len() - rest.len(), fault)),
+            Err(fault) => return Err(fault),
         }
         rest = after;
     }
@@ -259,7 +225,7 @@ pub fn all_coded(
     scenes: &[MeantScene],
 ) -> Result<Coded, TableFault>
     ensures coded { IfOk result (λ out. AreCoded counts.now (number_in strings.now) heads (origins_meant texts.now rules.now scenes.now) out.codes.items out.tests.items) }
-    ensures none { IfErr result (HaveNone counts.now (number_in strings.now) heads (map text_meant texts.now) (map rule_meant rules.now) (map scene_meant scenes.now)) }
+    ensures none { IfErr result (HaveNone counts.now (number_in strings.now) heads (origins_meant texts.now rules.now scenes.now)) }
 {
     let mut out = match texts_coded(alloc, counts, strings, heads, texts) {
         Ok(out) => out,

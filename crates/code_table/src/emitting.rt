@@ -1,9 +1,6 @@
 //! The codes of texts, rules and scenes, as a table.
-ghost use Rattle.std.specs.Prelude.{◌<◌, IfErr, IfOk, OnOk, length, map};
+ghost use Rattle.std.specs.Prelude.{◌<◌, IfErr, IfOk, OnOk, length};
 ghost use Rattle.object_words.specs.Mentions.{number_in};
-ghost use Rattle.play_meaning.specs.Meant.{text_meant};
-ghost use Rattle.play_meaning.specs.Patterns.{rule_meant};
-ghost use Rattle.play_meaning.specs.ScenesMeant.{scene_meant};
 ghost use Rattle.story_code.specs.Emits.{AreSpelled};
 ghost use Rattle.code_table.specs.Emitted.{AllFit, AreTableFor, CanBeSaid, HaveNoTable, codes_of_origins};
 ghost use Rattle.code_table.specs.Origins.{origins_meant};
@@ -25,10 +22,8 @@ use world_meaning::TextBytes;
 ///
 /// # Errors
 ///
-/// `LongText` with the number of the first text that doesn't fit, or whose codes bytes can't say; `LongRule` with that of
-/// the first rule of whose condition or body this is so, where it is so of no text; `LongScene` with that of the first
-/// scene of one of whose conditions this is so, where it is so of no text and no rule; `TooMany` only where there are more
-/// than 65,535 codes; and `Memory`.
+/// `TooLong` only where one of them doesn't fit, or bytes can't say its codes and their tests; `TooMany` only where there are
+/// more than 65,535 codes; and `Memory`.
 pub fn code_table(
     alloc: Global,
     counts: &Counts,
@@ -42,7 +37,7 @@ pub fn code_table(
     ensures said { OnOk result (CanBeSaid (number_in strings.now) (origins_meant texts.now rules.now scenes.now)) }
     ensures table { IfOk result (λ codes. AreTableFor counts.now (origins_meant texts.now rules.now scenes.now) codes.items) }
     ensures few { IfOk result (λ codes. length codes.items < 65536) }
-    ensures none { IfErr result (HaveNoTable counts.now (number_in strings.now) (map text_meant texts.now) (map rule_meant rules.now) (map scene_meant scenes.now)) }
+    ensures none { IfErr result (HaveNoTable counts.now (number_in strings.now) (origins_meant texts.now rules.now scenes.now)) }
 {
     let Some(heads) = heads_counted(texts, rules, scenes) else {
         return Err(TableFault::TooMany);

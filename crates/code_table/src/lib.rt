@@ -2,6 +2,7 @@
 #![tactic(auto)]
 
 mod adding;
+mod alone;
 mod coding;
 mod emitting;
 mod fault;
@@ -10,6 +11,7 @@ mod naming;
 mod strings;
 mod table;
 
+pub use alone::{rule_is_long, scene_is_long, text_is_long};
 pub use emitting::code_table;
 pub use fault::TableFault;
 pub use laws::{

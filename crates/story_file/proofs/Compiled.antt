@@ -12,13 +12,12 @@ use Rattle.play_meaning.specs.Trees.{Text}
 use Rattle.i7_conditions.specs.Scopes.{Scope}
 use Rattle.i7_sentences.specs.declared.sentence.Sentence.{Sentence}
 use Rattle.code_table.specs.declared.fault.TableFault.{TableFault}
-use Rattle.code_table.specs.declared.fault.TableFault.TheVariants.{Memory}
 use Rattle.story_format.specs.Contents.{Contents}
 use Rattle.story_format.specs.Holding.{AreHeld, AreNotHeld, AreOf, IsHeld, has_first_noun}
 use Rattle.story_format.specs.Making.{code_count, codes_in, tables_of}
 use Rattle.story_format.specs.Spells.{Spells}
 use Rattle.story_format.proofs.Carried.{tale_carried}
-use Rattle.story_file.specs.Compilations.{IsCompiled, IsRefused, IsToldAs, Means, Says, memory, unheld, unmeant}
+use Rattle.story_file.specs.Compilations.{IsCompiled, IsRefused, IsTold, Means, Says, memory, unheld, unmeant}
 use Rattle.story_file.specs.Meanings.{AreMeant, AreRefused, AreTexts, descriptions_of, scope_said}
 use Rattle.story_file.proofs.Acted.{IsKept}
 use Rattle.story_file.proofs.GrammarOf.{few_lines, few_words, lines_are, small_synonyms}
@@ -93,7 +92,7 @@ module _ (source : List ℕ) (sentences lent : List Sentence) (says : Says sourc
       spells = spells;
     }
 
-    pub unheld_by : (reason : TableFault) (fault : Fault) → AreNotHeld tale said reason → IsToldAs lent tale reason fault ⊎ ((reason ≡ Memory) × (fault ≡ out_of_memory)) → IsRefused source fault
+    pub unheld_by : (reason : TableFault) (fault : Fault) → AreNotHeld tale said reason → IsTold lent tale said reason fault ⊎ (fault ≡ out_of_memory) → IsRefused source fault
     unfolding means
     unheld_by reason fault not_held (inl told) = unheld (record {
       tale = tale;
@@ -101,6 +100,6 @@ module _ (source : List ℕ) (sentences lent : List Sentence) (says : Says sourc
       means = means;
       reason = reason;
       not_held = not_held;
-      told = subst (λ (all : List Sentence). IsToldAs all tale reason fault) same told;
+      told = subst (λ (all : List Sentence). IsTold all tale said reason fault) same told;
     })
-    unheld_by reason fault not_held (inr is) = memory says.spells.readable.short is.1
+    unheld_by reason fault not_held (inr is) = memory says.spells.readable.short is

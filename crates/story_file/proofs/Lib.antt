@@ -4,10 +4,12 @@ pub mod Counted
 pub mod Gathered
 pub mod LeadRooms
 pub mod Held
+pub mod LongLines
 pub mod MadeDeclarations
 pub mod MadeObjects
 pub mod MadePlaces
 pub mod NounsAgree
+pub mod OneRefusal
 pub mod Outcomes
 pub mod Ranges
 pub mod Resolving

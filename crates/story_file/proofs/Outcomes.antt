@@ -28,11 +28,9 @@ use Rattle.i7_resolution.specs.declared.resolution.Resolution.{Resolution}
 use Rattle.i7_resolution.specs.declared.resolution.Resolution.TheVariants.{Refused, Says as Understood}
 use Rattle.i7_resolution.specs.declared.resolution.Resolved.{Resolved}
 use Rattle.rule_order.specs.declared.listing.ListingSentence.{ListingSentence}
-use Rattle.code_table.specs.declared.fault.TableFault.{TableFault}
-use Rattle.code_table.specs.declared.fault.TableFault.TheVariants.{LongRule, LongScene, LongText, TooMany, Memory as NoMemory}
 use Rattle.story_format.specs.Contents.{Contents}
 use Rattle.story_format.specs.Holding.{AreHeld, NeverHeldAndNot}
-use Rattle.story_file.specs.Compilations.{IsCompiled, IsRefused, IsToldAs, Means, Says, memory, unheld as untold, unmeant as unsaid, unread, unspelled}
+use Rattle.story_file.specs.Compilations.{IsCompiled, IsRefused, Means, Says, memory, unheld as untold, unmeant as unsaid, unread, unspelled}
 use Rattle.story_file.specs.Meanings.{AreMeant, AreRefused, AreTexts, descriptions_of, known_said, scope_said, too_long, unmeant, unresolved}
 use Rattle.story_file.specs.Rules.{lines_told, listings_told, rules_told, scenes_told, synonyms_told}
 
@@ -176,7 +174,7 @@ ok_not_err tale fault same = absurd cc
 -- ---- refusals
 
 -- what is resolved isn't refused
-resolved_or_refused : IsOneResolution → (k : Known) (recurring : List Bool) (sentences : List Sentence) (resolved : Resolved) (fault : Fault) → IsResolution k recurring sentences (Understood resolved) → IsResolution k recurring sentences (Refused fault) → ⊥
+pub resolved_or_refused : IsOneResolution → (k : Known) (recurring : List Bool) (sentences : List Sentence) (resolved : Resolved) (fault : Fault) → IsResolution k recurring sentences (Understood resolved) → IsResolution k recurring sentences (Refused fault) → ⊥
 resolved_or_refused law k recurring sentences resolved fault is refused =
     let same : resolution_meant (Understood resolved) ≡ resolution_meant (Refused fault) = law k recurring sentences (Understood resolved) (Refused fault) is refused in
     absurd cc
@@ -185,7 +183,7 @@ none_not_some : (line : ℕ) → None ≡ Some line → ⊥
 none_not_some line same = absurd cc
 
 -- sentences that mean a tale aren't refused
-meant_or_refused : IsOneResolution → (sentences : List Sentence) (tale : Tale) (said : Contents) (fault : Fault) → AreMeant sentences tale said → AreRefused sentences fault → ⊥
+pub meant_or_refused : IsOneResolution → (sentences : List Sentence) (tale : Tale) (said : Contents) (fault : Fault) → AreMeant sentences tale said → AreRefused sentences fault → ⊥
 meant_or_refused law sentences tale said fault meant (unmeant refused) = ok_not_err tale fault (sym meant.tale_is ∙ refused)
 meant_or_refused law sentences tale said fault meant (unresolved refused) =
     let same = same_ok tale refused.tale (sym meant.tale_is ∙ refused.tale_is) in
@@ -198,13 +196,6 @@ pub refused_so : (sentences others : List Sentence) (fault : Fault) → sentence
 refused_so sentences others fault same = subst (λ (all : List Sentence). AreRefused all fault) same
 
 -- ---- stories
-
-told_never : (sentences : List Sentence) (tale : Tale) (reason : TableFault) (fault : Fault) → reason ≡ NoMemory → IsToldAs sentences tale reason fault → ⊥
-told_never sentences tale (LongText number) fault is told = absurd cc
-told_never sentences tale (LongRule number) fault is told = absurd cc
-told_never sentences tale (LongScene number) fault is told = absurd cc
-told_never sentences tale TooMany fault is told = absurd cc
-told_never sentences tale NoMemory fault is told = told
 
 pub not_both : IsOneText → IsOneResolution → NeverHeldAndNot → (source bytes : List ℕ) (fault : Fault) → fault.code ≢ Memory → IsCompiled source bytes → IsRefused source fault → ⊥
 not_both text_law law held_law source bytes fault other compiled (unspelled refused) =
@@ -219,5 +210,5 @@ not_both text_law law held_law source bytes fault other compiled (unsaid refused
 not_both text_law law held_law source bytes fault other compiled (untold refused) =
     let same = same_tale text_law law source compiled.tale refused.tale compiled.said refused.said compiled.means refused.means in
     let held : AreHeld refused.tale refused.said = subst (AreHeld refused.tale) same.1 (subst (λ (tale : Tale). AreHeld tale compiled.said) same.0 compiled.held) in
-    told_never refused.means.sentences refused.tale refused.reason fault (held_law refused.tale refused.said refused.reason held refused.not_held) refused.told
+    refused.told.other (held_law refused.tale refused.said refused.reason held refused.not_held)
 not_both text_law law held_law source bytes fault other compiled (memory short is) = other (ap (λ f. f.code) is)

@@ -1,7 +1,7 @@
 -- Which story file a source has, and which refusal.
-use Rattle.std.specs.Prelude.{◌≡◌, ℕ, ◌≤◌, List, length, slice_get}
+use Rattle.std.specs.Prelude.{◌≡◌, ◌≢◌, ℕ, ◌≤◌, List, length}
 use Rattle.world_meaning.specs.declared.fault.Fault.{Fault}
-use Rattle.world_meaning.specs.declared.fault.FaultCode.TheVariants.{TooMany as TooManyCode}
+use Rattle.world_meaning.specs.declared.fault.FaultCode.TheVariants.{TooMany}
 use Rattle.world_meaning.specs.Faults.{out_of_memory}
 use Rattle.world_meaning.specs.declared.tale.Tale.{Tale}
 use Rattle.play_meaning.specs.Games.{Game}
@@ -12,7 +12,7 @@ use Rattle.i7_lexer.specs.declared.token.Token.{Token}
 use Rattle.i7_sentences.specs.Sources.{HasSentences, IsRefused as IsUnread}
 use Rattle.i7_sentences.specs.declared.sentence.Sentence.{Sentence}
 use Rattle.code_table.specs.declared.fault.TableFault.{TableFault}
-use Rattle.code_table.specs.declared.fault.TableFault.TheVariants.{LongRule, LongScene, LongText, TooMany, Memory}
+use Rattle.code_table.specs.declared.fault.TableFault.TheVariants.{Memory}
 use Rattle.story_format.specs.Carrying.{Carries}
 use Rattle.story_format.specs.Contents.{Contents}
 use Rattle.story_format.specs.Holding.{AreHeld, AreNotHeld}
@@ -20,8 +20,8 @@ use Rattle.story_format.specs.Making.{tables_of}
 use Rattle.story_format.specs.Spells.{Spells}
 use Rattle.story_format.specs.TaleScripts.{whole_script}
 use Rattle.story_format.specs.declared.tables.Tables.{Tables}
-use Rattle.story_file.specs.Lines.{line_of_description, line_in, line_of_rule, scene_lines}
-use Rattle.story_file.specs.Meanings.{AreMeant, AreRefused, scope_said}
+use Rattle.story_file.specs.LongOnes.{IsToldAt}
+use Rattle.story_file.specs.Meanings.{AreMeant, AreRefused}
 
 -- the game of a tale of which this is said: with the rules that every story has
 abbrev pub game_meant : Tale → Contents → Game
@@ -64,15 +64,11 @@ pub record IsUnmeant (source : List ℕ) (fault : Fault) : Type 0 where
   pub says : Says source sentences
   pub refused : AreRefused sentences fault
 
--- how it is told that no story file says this of a tale: at the line of the first description whose code is too long, or else of
--- the first such rule, or else of the first sentence that says on what the first such scene begins or ends; and at line 1 where there
--- are too many codes or strings
-abbrev pub IsToldAs : List Sentence → Tale → TableFault → Fault → Type 0
-IsToldAs sentences tale (LongText number) fault = fault ≡ record { code = TooManyCode; line = line_of_description sentences tale.objects number }
-IsToldAs sentences tale (LongRule number) fault = fault ≡ record { code = TooManyCode; line = line_of_rule sentences number }
-IsToldAs sentences tale (LongScene number) fault = fault ≡ record { code = TooManyCode; line = line_in (slice_get (scene_lines (scope_said sentences) sentences (length tale.declared.scenes)) number) }
-IsToldAs sentences tale TooMany fault = fault ≡ record { code = TooManyCode; line = 1 }
-IsToldAs sentences tale Memory fault = ⊥
+-- how it is told that no story file says this of a tale, for another reason than memory: at the lowest line of what is too long
+pub record IsTold (sentences : List Sentence) (tale : Tale) (said : Contents) (reason : TableFault) (fault : Fault) : Type 0 where
+  pub other : reason ≢ Memory
+  pub code_is : fault.code ≡ TooMany
+  pub line_is : IsToldAt sentences tale said fault.line
 
 -- A source means a tale of which no story file says what is said of it.
 pub record IsUnheldSource (source : List ℕ) (fault : Fault) : Type 0 where
@@ -81,7 +77,7 @@ pub record IsUnheldSource (source : List ℕ) (fault : Fault) : Type 0 where
   pub means : Means source tale said
   pub reason : TableFault
   pub not_held : AreNotHeld tale said reason
-  pub told : IsToldAs means.sentences tale reason fault
+  pub told : IsTold means.sentences tale said reason fault
 
 -- A source is refused: by its bytes, its tokens, what its sentences say, or for descriptions, rules and scenes that no story file says;
 -- or, within the limit, memory was refused.

@@ -1,5 +1,5 @@
 -- The lines of descriptions, rules and scenes.
-use Rattle.std.specs.Prelude.{ℕ, Bool, true, false, List, [], ◌∷◌, map, Option, None, Some, filter, slice_get, bytes_eq, ◌==◌, if◌then◌else◌}
+use Rattle.std.specs.Prelude.{ℕ, Bool, true, false, List, [], ◌∷◌, map, Option, None, Some, filter, bytes_eq, ◌==◌, if◌then◌else◌}
 use Rattle.std.specs.List.{range_with_len}
 use Rattle.world_meaning.specs.declared.tale.Object.{Object}
 use Rattle.i7_conditions.specs.Clauses.{scene_named}
@@ -20,13 +20,9 @@ abbrev pub line_of : List Sentence → List ℕ → ℕ
 line_of [] text = 1
 line_of (sentence ∷ sentences) text = if describes_with text sentence.said then sentence.line else line_of sentences text
 
-abbrev pub line_of_one : List Sentence → Option (List ℕ) → ℕ
-line_of_one sentences None = 1
-line_of_one sentences (Some text) = line_of sentences text
-
--- the line of the description of this number, counted from 0 in the order of the objects that have one
-abbrev pub line_of_description : List Sentence → List Object → ℕ → ℕ
-line_of_description sentences objects number = line_of_one sentences (slice_get (descriptions_of objects) number)
+-- the lines of the descriptions, in the order of the objects that have one
+abbrev pub text_lines : List Sentence → List Object → List ℕ
+text_lines sentences objects = map (line_of sentences) (descriptions_of objects)
 
 -- ---- rules
 
@@ -34,13 +30,9 @@ abbrev pub is_rule : Assertion → Bool
 is_rule (Rule rule) = true
 is_rule _ = false
 
-abbrev pub line_of_sentence : Option Sentence → ℕ
-line_of_sentence None = 1
-line_of_sentence (Some sentence) = sentence.line
-
--- the line of the rule of this number, counted from 0 in the order of the sentences; 1 where there is none
-abbrev pub line_of_rule : List Sentence → ℕ → ℕ
-line_of_rule sentences number = line_of_sentence (slice_get (filter (λ sentence. is_rule sentence.said) sentences) number)
+-- the lines of the rules, in the order of the sentences
+abbrev pub rule_lines : List Sentence → List ℕ
+rule_lines sentences = map (λ sentence. sentence.line) (filter (λ sentence. is_rule sentence.said) sentences)
 
 -- ---- scenes
 
@@ -61,7 +53,3 @@ line_of_scene s (sentence ∷ sentences) number = if changes_scene s number sent
 -- of each of so many scenes
 abbrev pub scene_lines : Scope → List Sentence → ℕ → List ℕ
 scene_lines s sentences count = map (line_of_scene s sentences) (range_with_len 0 count)
-
-abbrev pub line_in : Option ℕ → ℕ
-line_in None = 1
-line_in (Some line) = line

@@ -1,19 +1,20 @@
 //! The compiler: from a source's bytes to a story's.
 ghost use Rattle.std.specs.Prelude.{◌≡◌, ◌⊎◌, IfErr, IfOk, MatchResult, length};
-ghost use Rattle.code_table.specs.declared.fault.TableFault.TheVariants.{Memory};
-ghost use Rattle.story_file.specs.Compilations.{IsCompiled, IsRefused, IsToldAs, Says};
+ghost use Rattle.story_format.specs.Contents.{contents_meant};
+ghost use Rattle.story_format.specs.Holding.{AreOf, IsHeld};
+ghost use Rattle.story_file.specs.Compilations.{IsCompiled, IsRefused, IsTold, Says};
 ghost use Rattle.story_file.specs.Lines.{scene_lines};
 ghost use Rattle.story_file.specs.Meanings.{scope_said};
 ghost use Rattle.world_meaning.specs.Faults.{out_of_memory};
 
-use crate::lines::{line_in, line_of_description, line_of_rule};
-use crate::meaning::tale_meant;
+use crate::long_ones::line_told;
+use crate::meaning::{Meant, tale_meant};
 use code_table::TableFault;
 use i7_lexer::lex;
 use i7_sentences::{Sentence, read};
 use std::alloc::Global;
 use story_format::write;
-use world_meaning::{Fault, FaultCode, Tale};
+use world_meaning::{Fault, FaultCode};
 
 /// The sentences that the source says.
 fn sentences_said(alloc: Global, source: &[u8]) -> Result<Vec<Sentence>, Fault>
@@ -25,30 +26,22 @@ fn sentences_said(alloc: Global, source: &[u8]) -> Result<Vec<Sentence>, Fault>
     Ok(sentences)
 }
 
-/// How it is told that no story file says the descriptions of a tale's objects, the rules, or the scenes, of which these are the
-/// lines.
-fn fault_told(sentences: &[Sentence], tale: &Tale, lines: &[u32], fault: TableFault) -> Fault
-    requires { lines.now ≡ scene_lines (scope_said sentences.now) sentences.now (length tale.now.declared.scenes) }
-    ensures { IsToldAs sentences.now tale.now fault result ⊎ ((fault ≡ Memory) × (result ≡ out_of_memory)) }
+/// How it is told that no story file says what sentences mean: C12 at the lowest line of what is too long.
+fn fault_told(alloc: Global, sentences: &[Sentence], meant: &Meant, fault: TableFault) -> Fault
+    requires held { IsHeld meant.now.tale }
+    requires are_of { AreOf meant.now.tale (contents_meant meant.now.contents) }
+    requires lines { meant.now.scene_lines.items ≡ scene_lines (scope_said sentences.now) sentences.now (length meant.now.tale.declared.scenes) }
+    ensures { IsTold sentences.now meant.now.tale (contents_meant meant.now.contents) fault result ⊎ (result ≡ out_of_memory) }
 {
-    match fault {
-        TableFault::LongText(number) => Fault {
+    if fault == TableFault::Memory {
+        return Fault::OUT_OF_MEMORY;
+    }
+    match line_told(alloc, sentences, meant) {
+        Err(_) => Fault::OUT_OF_MEMORY,
+        Ok(line) => Fault {
             code: FaultCode::TooMany,
-            line: line_of_description(sentences, tale.objects.as_slice(), number),
+            line,
         },
-        TableFault::LongRule(number) => Fault {
-            code: FaultCode::TooMany,
-            line: line_of_rule(sentences, number),
-        },
-        TableFault::LongScene(number) => Fault {
-            code: FaultCode::TooMany,
-            line: line_in(lines, number),
-        },
-        TableFault::TooMany => Fault {
-            code: FaultCode::TooMany,
-            line: 1,
-        },
-        TableFault::Memory => Fault::OUT_OF_MEMORY,
     }
 }
 
@@ -66,9 +59,6 @@ pub fn compile(alloc: Global, source: &[u8]) -> Result<Vec<u8>, Fault>
     };
     match write(alloc, &meant.tale, &meant.contents) {
         Ok(bytes) => Ok(bytes),
-        Err(fault) => {
-            let lines = meant.scene_lines.as_slice();
-            Err(fault_told(sentences, &meant.tale, lines, fault))
-        }
+        Err(fault) => Err(fault_told(alloc, sentences, &meant, fault)),
     }
 }

@@ -41,3 +41,11 @@ pub fn never_compiled_and_refused()
     one_resolution();
     never_held_and_not();
 }
+
+/// No source is refused in two ways, memory aside.
+pub fn one_refusal()
+    ensures { (source : List ℕ) (fault other : Fault) → IsRefused source fault → IsRefused source other → fault.code ≢ Memory → other.code ≢ Memory → fault ≡ other }
+{
+    one_text_is_meant();
+    one_resolution();
+}

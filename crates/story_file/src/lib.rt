@@ -4,6 +4,7 @@
 mod compiler;
 mod laws;
 mod lines;
+mod long_ones;
 mod meaning;
 mod rules;
 mod texts;
@@ -12,7 +13,8 @@ mod worked_rows;
 pub use compiler::compile;
 pub use i7_kinds::{TaleSaid, tale_of};
 pub use laws::{
-    actions_are_numbered_alike, meant_tales_are_held, never_compiled_and_refused, one_tale,
+    actions_are_numbered_alike, meant_tales_are_held, never_compiled_and_refused, one_refusal,
+    one_tale,
 };
 pub use meaning::{Meant, tale_meant};
 pub use story_format::{LoadFault, Story, load, write};

@@ -1,14 +1,12 @@
 //! The lines of descriptions, rules and scenes.
-ghost use Rattle.std.specs.Prelude.{◌≡◌, IfOk, slice_get};
-ghost use Rattle.std.specs.Option.{option_map};
+ghost use Rattle.std.specs.Prelude.{◌≡◌, IfOk};
 ghost use Rattle.i7_conditions.specs.Scopes.{scope_of};
-ghost use Rattle.story_file.specs.Lines.{changes_scene, describes_with, is_rule, is_some_of, line_in, line_of, line_of_description, line_of_rule, line_of_scene, scene_lines};
-ghost use Rattle.story_file.specs.Meanings.{descriptions_of};
+ghost use Rattle.story_file.specs.Lines.{changes_scene, describes_with, is_rule, is_some_of, line_of, line_of_scene, rule_lines, scene_lines, text_lines};
 
 use i7_conditions::{Scope, scene_named};
 use i7_sentences::{Assertion, Sentence};
 use std::alloc::{AllocError, Global};
-use world_meaning::{Object, TextBytes};
+use world_meaning::Object;
 
 /// Whether what is asserted describes with this text.
 fn describes_with(text: &[u8], said: &Assertion) -> bool
@@ -35,22 +33,23 @@ fn line_of(sentences: &[Sentence], text: &[u8]) -> u32
     1
 }
 
-/// The description of this number, counted from 0 in the order of the objects that have one.
-fn description_at(objects: &[Object], number: usize) -> Option<&TextBytes>
-    ensures { option_map (λ text. text.now) result ≡ slice_get (descriptions_of objects.now) number }
+/// The lines of the descriptions, in the order of the objects that have one: of each that of the first sentence that says it.
+pub fn text_lines(
+    alloc: Global,
+    sentences: &[Sentence],
+    objects: &[Object],
+) -> Result<Vec<u32>, AllocError>
+    ensures { IfOk result (λ lines. lines.items ≡ text_lines sentences.now objects.now) }
 {
-    let mut left = number;
+    let mut lines = Vec::new(alloc);
     let mut rest = objects;
     while let [object, after @ ..] = rest {
         if let Some(text) = &object.description {
-            if left == 0 {
-                return Some(text);
-            }
-            left -= 1;
+            lines.push(line_of(sentences, text.as_slice()))?;
         }
         rest = after;
     }
-    None
+    Ok(lines)
 }
 
 fn is_rule(said: &Assertion) -> bool
@@ -59,32 +58,19 @@ fn is_rule(said: &Assertion) -> bool
     matches!(said, Assertion::Rule(_))
 }
 
-/// The line of the rule of this number, counted from 0 in the order of the sentences; 1 where there is none.
-pub fn line_of_rule(sentences: &[Sentence], number: usize) -> u32
-    ensures { result ≡ line_of_rule sentences.now number }
+/// The lines of the rules, in the order of the sentences.
+pub fn rule_lines(alloc: Global, sentences: &[Sentence]) -> Result<Vec<u32>, AllocError>
+    ensures { IfOk result (λ lines. lines.items ≡ rule_lines sentences.now) }
 {
-    let mut left = number;
+    let mut lines = Vec::new(alloc);
     let mut rest = sentences;
     while let [sentence, after @ ..] = rest {
         if is_rule(&sentence.said) {
-            if left == 0 {
-                return sentence.line;
-            }
-            left -= 1;
+            lines.push(sentence.line)?;
         }
         rest = after;
     }
-    1
-}
-
-/// The line of the first sentence that says the description of this number.
-pub fn line_of_description(sentences: &[Sentence], objects: &[Object], number: usize) -> u32
-    ensures { result ≡ line_of_description sentences.now objects.now number }
-{
-    match description_at(objects, number) {
-        None => 1,
-        Some(text) => line_of(sentences, text.as_slice()),
-    }
+    Ok(lines)
 }
 
 fn is_some_of(number: usize, scene: Option<u8>) -> bool
@@ -147,14 +133,4 @@ pub fn scene_lines(
         lines.push(line_of_scene(alloc, scope, sentences, number)?)?;
     }
     Ok(lines)
-}
-
-/// One of these lines; 1 where there is none.
-pub fn line_in(lines: &[u32], number: usize) -> u32
-    ensures { result ≡ line_in (slice_get lines.now number) }
-{
-    match lines.get(number) {
-        None => 1,
-        Some(line) => *line,
-    }
 }

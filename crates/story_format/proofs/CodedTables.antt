@@ -10,13 +10,14 @@ use Rattle.code_table.specs.Emitted.{AllFit, CanBeSaid, HaveNoTable, codes_of_or
 use Rattle.code_table.specs.Laws.{NeverTableAndNone}
 use Rattle.code_table.specs.Origins.{Origin}
 use Rattle.code_table.specs.declared.fault.TableFault.{TableFault}
-use Rattle.code_table.specs.declared.fault.TableFault.TheVariants.{LongRule, LongScene, LongText, TooMany, Memory}
+use Rattle.code_table.specs.declared.fault.TableFault.TheVariants.{TooLong, TooMany, Memory}
 use Rattle.play_meaning.specs.declared.operand.Counts.{Counts}
 use Rattle.story_code.specs.Emits.{AreSpelled}
+use Rattle.story_code.specs.SoundlyEmitted.{among}
 use Rattle.story_code.specs.Spelling.{spelling}
 use Rattle.story_format.specs.Codes.{counts_of}
 use Rattle.story_format.specs.Contents.{Contents, origins_said}
-use Rattle.story_format.specs.Holding.{AreHeld, AreNotHeld, AreOf, AreTooMany, NeverHeldAndNot, counts_in, is_short}
+use Rattle.story_format.specs.Holding.{AreCountsOf, AreHeld, AreNotHeld, AreOf, AreTooMany, NeverHeldAndNot, counts_in, is_short}
 use Rattle.story_format.specs.Making.{code_bytes, strings_with, tables_of, tables_uncoded, tables_with}
 use Rattle.story_format.specs.declared.tables.Tables.{Tables}
 
@@ -68,71 +69,22 @@ module _ (t : Tale) (c : Contents) (strings : List (List ℕ)) (tables : Tables)
   -- ---- what isn't said
 
   abbrev Long : TableFault → Counts → List (List ℕ) → Type 0
-  Long fault z l = HaveNoTable z (number_in l) c.texts c.rules c.scenes fault
+  Long fault z l = HaveNoTable z (number_in l) os fault
 
-  abbrev uncoded : Tables
-  uncoded = tables_uncoded t c
-
-  moved : (fault : TableFault) → Long fault (counts_of tables) strings → Long fault (counts_of uncoded) (strings_with t c)
-  moved fault none = subst (λ (z : Counts). Long fault z (strings_with t c)) (ap counts_of tables_are) (subst (Long fault (counts_of tables)) strings_are none)
-
-  long_text : (number : ℕ) → Long (LongText number) (counts_of tables) strings → AreNotHeld t c (LongText number)
+  -- the codes aren't counted there, but whatever is said of them goes by a number that is told with them
+  pub counted : AreCountsOf t c (counts_of tables)
   unfolding counts_of tables_with
-  long_text number none =
-      let there = moved (LongText number) none in
-      record {
-        before = there.before;
-        text = there.text;
-        behind = there.behind;
-        parts = there.parts;
-        place = there.place;
-        long = record { fit = there.long.fit; said = there.long.said; long = there.long.long };
-      }
-
-  long_rule : (number : ℕ) → Long (LongRule number) (counts_of tables) strings → AreNotHeld t c (LongRule number)
-  unfolding counts_of tables_with
-  long_rule number none =
-      let there = moved (LongRule number) none in
-      record {
-        before = there.before;
-        rule = there.rule;
-        behind = there.behind;
-        parts = there.parts;
-        place = there.place;
-        front = there.front;
-        origin = there.origin;
-        back = there.back;
-        within = there.within;
-        long = record { fit = there.long.fit; said = there.long.said; long = there.long.long };
-      }
-
-  long_scene : (number : ℕ) → Long (LongScene number) (counts_of tables) strings → AreNotHeld t c (LongScene number)
-  unfolding counts_of tables_with
-  long_scene number none =
-      let there = moved (LongScene number) none in
-      record {
-        before = there.before;
-        scene = there.scene;
-        behind = there.behind;
-        parts = there.parts;
-        place = there.place;
-        front = there.front;
-        origin = there.origin;
-        back = there.back;
-        within = there.within;
-        long = record { fit = there.long.fit; said = there.long.said; long = there.long.long };
-      }
+  counted own codes = ap (λ (all : Tables). among (counts_of all) own codes) tables_are
 
   pub none_so : (fault : TableFault) → Long fault (counts_of tables) strings → AreNotHeld t c fault
-  none_so (LongText number) long = long_text number long
-  none_so (LongRule number) long = long_rule number long
-  none_so (LongScene number) long = long_scene number long
+  unfolding counts_of tables_with
+  none_so TooLong long = λ fits said.
+      let there = subst (λ (z : Counts). Long TooLong z (strings_with t c)) (ap counts_of tables_are) (subst (Long TooLong (counts_of tables)) strings_are long) in
+      there fits said
   none_so TooMany many = λ few short. subst (λ l. 65535 < length (codes_of_origins (number_in l) os)) strings_are many
   none_so Memory none = tt
 
 pub never_both : NeverTableAndNone → NeverHeldAndNot
-never_both law t c (LongText number) are long = law (counts_in t c) (number_in (strings_with t c)) c.texts c.rules c.scenes (LongText number) are.fit are.said long
-never_both law t c (LongRule number) are long = law (counts_in t c) (number_in (strings_with t c)) c.texts c.rules c.scenes (LongRule number) are.fit are.said long
-never_both law t c (LongScene number) are long = law (counts_in t c) (number_in (strings_with t c)) c.texts c.rules c.scenes (LongScene number) are.fit are.said long
+never_both law t c TooLong are long = law (counts_in t c) (number_in (strings_with t c)) (origins_said c) TooLong are.fit are.said long
 never_both law t c TooMany are none = absurd (omega (arith, none are.few are.short, are.said.few))
 never_both law t c Memory are none = refl

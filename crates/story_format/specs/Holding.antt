@@ -14,9 +14,10 @@ use Rattle.play_meaning.specs.Trees.{Adjective, NotSo, Quality}
 use Rattle.play_meaning.specs.StandardActions.{standard_needs}
 use Rattle.play_meaning.specs.StandardRules.{plain}
 use Rattle.play_meaning.specs.declared.operand.Counts.{Counts}
-use Rattle.code_table.specs.Emitted.{AllFit, CanBeSaid, HaveNoTable, IsLongRule, IsLongScene, IsLongText, codes_of_origins}
+use Rattle.story_code.specs.SoundlyEmitted.{among}
+use Rattle.code_table.specs.Emitted.{AllFit, CanBeSaid, HaveNoTable, codes_of_origins}
 use Rattle.code_table.specs.declared.fault.TableFault.{TableFault}
-use Rattle.code_table.specs.declared.fault.TableFault.TheVariants.{LongText, LongRule, LongScene, TooMany, Memory}
+use Rattle.code_table.specs.declared.fault.TableFault.TheVariants.{TooLong, TooMany, Memory}
 use Rattle.story_format.specs.Checks.{is_small}
 use Rattle.story_format.specs.Codes.{counts_of}
 use Rattle.story_format.specs.Contents.{Contents, origins_said}
@@ -45,7 +46,7 @@ pub record IsHeld (t : Tale) : Type 0 where
 
 -- why what is said of a story has no codes, whose strings have these numbers
 abbrev pub HasNoCodes : Counts → (List ℕ → ℕ) → Contents → TableFault → Type 0
-HasNoCodes z string c = HaveNoTable z string c.texts c.rules c.scenes
+HasNoCodes z string c = HaveNoTable z string (origins_said c)
 
 -- how many there are of what rules are about
 pub record Named : Type 0 where
@@ -120,6 +121,10 @@ pub record AreOf (t : Tale) (c : Contents) : Type 0 where
 abbrev pub counts_in : Tale → Contents → Counts
 counts_in t c = counts_of (tables_of t c)
 
+-- these are as many, whatever number a code has, and however many codes there are
+abbrev pub AreCountsOf : Tale → Contents → Counts → Type 0
+AreCountsOf t c z = (own codes : ℕ) → among z own codes ≡ among (counts_in t c) own codes
+
 -- What a story file says of a tale: strings of 65,535 bytes at most, no more than two bytes number, of texts, rules and scenes that fit
 -- what is there and whose codes bytes can say.
 pub record AreHeld (t : Tale) (c : Contents) : Type 0 where
@@ -133,11 +138,9 @@ pub record AreHeld (t : Tale) (c : Contents) : Type 0 where
 abbrev pub AreTooMany : Tale → Contents → Type 0
 AreTooMany t c = length (strings_with t c) < 65535 → list_all is_short (strings_with t c) ≡ true → 65535 < length (codes_of_origins (number_in (strings_with t c)) (origins_said c))
 
--- why a story file doesn't say it: a text, a rule or a scene is the first whose code is too long, or there is too much
+-- why a story file doesn't say it: not all codes fit, each said by bytes, or there is too much
 abbrev pub AreNotHeld : Tale → Contents → TableFault → Type 0
-AreNotHeld t c (LongText number) = IsLongText (counts_in t c) (number_in (strings_with t c)) (length (origins_said c)) c.texts number
-AreNotHeld t c (LongRule number) = IsLongRule (counts_in t c) (number_in (strings_with t c)) (length (origins_said c)) c.texts c.rules number
-AreNotHeld t c (LongScene number) = IsLongScene (counts_in t c) (number_in (strings_with t c)) (length (origins_said c)) c.texts c.rules c.scenes number
+AreNotHeld t c TooLong = HasNoCodes (counts_in t c) (number_in (strings_with t c)) c TooLong
 AreNotHeld t c TooMany = AreTooMany t c
 AreNotHeld t c Memory = Unit {0}
 

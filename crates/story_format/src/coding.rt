@@ -5,8 +5,8 @@ ghost use Rattle.object_words.specs.Mentions.{number_in};
 ghost use Rattle.code_table.specs.Emitted.{AllFit, CanBeSaid};
 ghost use Rattle.story_format.specs.Codes.{counts_of};
 ghost use Rattle.story_format.specs.Contents.{contents_meant, origins_said};
-ghost use Rattle.story_format.specs.Holding.{AreHeld, AreNotHeld, AreOf, HasNoCodes, IsHeld, is_short};
-ghost use Rattle.story_format.specs.Making.{code_bytes, tables_of};
+ghost use Rattle.story_format.specs.Holding.{AreCountsOf, AreHeld, AreNotHeld, AreOf, HasNoCodes, IsHeld, is_short};
+ghost use Rattle.story_format.specs.Making.{code_bytes, strings_with, tables_of, tables_uncoded};
 
 use crate::contents::Contents;
 use crate::counts::counts_of;
@@ -15,7 +15,8 @@ use crate::table::Table;
 use crate::tables::Tables;
 use code_table::{TableFault, code_table};
 use object_words::Strings;
-use std::alloc::Global;
+use play_meaning::Counts;
+use std::alloc::{AllocError, Global};
 use world_meaning::{Tale, TextBytes};
 
 fn is_short(text: &[u8]) -> bool
@@ -65,13 +66,26 @@ fn with_codes(
     }
 }
 
+/// The tables without codes of a tale of which this is said, and their strings.
+fn uncoded_of(
+    alloc: Global,
+    tale: &Tale,
+    contents: &Contents,
+) -> Result<(Strings, Tables), AllocError>
+    requires held { IsHeld tale.now }
+    requires are_of { AreOf tale.now (contents_meant contents.now) }
+    ensures strings { IfOk result (λ made. made.0 ≡ strings_with tale.now (contents_meant contents.now)) }
+    ensures tables { IfOk result (λ made. made.1 ≡ tables_uncoded tale.now (contents_meant contents.now)) }
+{
+    uncoded(alloc, tale, contents)
+}
+
 /// The tables of a tale of which this is said.
 ///
 /// # Errors
 ///
-/// `LongText` with the number of the first text whose code is too long, `LongRule` with that of the first rule of whose
-/// codes one is, `LongScene` with that of the first such scene, `TooMany` only where there are more codes or strings than two
-/// bytes number, or a string is too long, and `Memory`.
+/// `TooLong` only where a text, a rule or a scene says what doesn't fit, or has codes that bytes can't say; `TooMany` only where
+/// there are more codes or strings than two bytes number, or a string is too long; and `Memory`.
 pub fn tables_of(alloc: Global, tale: &Tale, contents: &Contents) -> Result<Tables, TableFault>
     requires held { IsHeld tale.now }
     requires are_of { AreOf tale.now (contents_meant contents.now) }
@@ -79,11 +93,26 @@ pub fn tables_of(alloc: Global, tale: &Tale, contents: &Contents) -> Result<Tabl
     ensures said { OnOk result (AreHeld tale.now (contents_meant contents.now)) }
     ensures none { IfErr result (AreNotHeld tale.now (contents_meant contents.now)) }
 {
-    let Ok((strings, tables)) = uncoded(alloc, tale, contents) else {
+    let Ok((strings, tables)) = uncoded_of(alloc, tale, contents) else {
         return Err(TableFault::Memory);
     };
     if !are_few(tables.strings.as_slice()) {
         return Err(TableFault::TooMany);
     }
     with_codes(alloc, &strings, tables, contents)
+}
+
+/// How many there are of what codes name, and the strings by number, of the story of a tale of which this is said.
+pub fn numbered(
+    alloc: Global,
+    tale: &Tale,
+    contents: &Contents,
+) -> Result<(Counts, Strings), AllocError>
+    requires held { IsHeld tale.now }
+    requires are_of { AreOf tale.now (contents_meant contents.now) }
+    ensures counts { IfOk result (λ found. AreCountsOf tale.now (contents_meant contents.now) found.0) }
+    ensures strings { IfOk result (λ found. found.1 ≡ strings_with tale.now (contents_meant contents.now)) }
+{
+    let (strings, tables) = uncoded_of(alloc, tale, contents)?;
+    Ok((counts_of(&tables), strings))
 }

@@ -49,6 +49,7 @@ mod world_making;
 mod world_tables;
 mod writing;
 
+pub use coding::numbered;
 pub use contents::Contents;
 pub use fact_laws::stories_begin_in_order;
 pub use facts::{door_in, way_in};

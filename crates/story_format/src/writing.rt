@@ -34,9 +34,9 @@ fn spelling(alloc: Global, tables: &Tables) -> Result<Vec<u8>, AllocError>
 ///
 /// # Errors
 ///
-/// `LongText` with the number of the first text whose code is too long, `LongRule` with that of the first rule of whose
-/// codes one is, `LongScene` with that of the first such scene, `TooMany` only where the story would have more than 65,535 codes
-/// or 65,534 strings, or a string of more than 65,535 bytes, and `Memory`.
+/// `TooLong` only where a text, a rule or a scene says what doesn't fit, or has codes that bytes can't say (`numbered` tells by what
+/// `code_table` finds these); `TooMany` only where the story would have more than 65,535 codes or 65,534 strings, or a string of
+/// more than 65,535 bytes; and `Memory`.
 pub fn write(alloc: Global, tale: &Tale, contents: &Contents) -> Result<Vec<u8>, TableFault>
     requires held { IsHeld tale.now }
     requires are_of { AreOf tale.now (contents_meant contents.now) }

@@ -1,19 +1,14 @@
-use Rattle.std.proofs.Common.{subst, sym, refl, map, arith}
+use Rattle.std.proofs.Common.{map}
 use Rattle.object_words.specs.Mentions.{number_in}
 use Rattle.play_meaning.specs.Patterns.{rule_meant}
-use Rattle.code_table.specs.Coding.{RulesHaveNone}
 use Rattle.code_table.specs.Origins.{origins_of_rule}
-use Rattle.code_table.proofs.Stopped.{fewer, grows_on, rule_stops}
+use Rattle.code_table.proofs.Stopped.{grows_on, loop_stops}
 use Rattle.code_table.proofs.coding.add_rules.Goals as goal
 
 pub returns-in-Err-clause-none : goal.returns-in-Err-clause-none
 returns-in-Err-clause-none c =
-    let z = c.args.counts.now in
-    let string = number_in c.args.strings.now in
-    let rules = map rule_meant c.args.rules.now in
-    subst (RulesHaveNone z string c.args.heads rules c.args.out.now.codes.items c.args.out.now.tests.items) (sym c.rule_fault.ensures)
-    (rule_stops z string c.args.heads c.args.rules.now c.args.out.now.codes.items c.args.out.now.tests.items c.loop-rest.out.codes.items c.loop-rest.out.tests.items c.loop-rest.rest.now c.rule-item.result _ c.in-Err.fault
-    c.in-len1-up.len_at_least c.rule-item.is (omega (arith, fewer origins_of_rule z string c.args.heads rules c.args.out.now.codes.items c.args.out.now.tests.items rule_meant c.args.rules.now refl c.loop-rest.out.codes.items c.loop-rest.out.tests.items c.loop-rest.rest.now c.loop-rest.invariant)) c.in-Err.ensures.none c.loop-rest.invariant)
+    loop_stops origins_of_rule c.args.counts.now (number_in c.args.strings.now) c.args.heads (map rule_meant c.args.rules.now) c.args.out.now.codes.items c.args.out.now.tests.items rule_meant c.loop-rest.out.codes.items c.loop-rest.out.tests.items
+    c.loop-rest.rest.now c.rule-item.result c.in-Err.fault c.in-len1-up.len_at_least c.rule-item.is c.in-Err.ensures.none c.loop-rest.invariant
 
 pub loop-rest-preserved : goal.loop-rest-preserved
 loop-rest-preserved c =

@@ -1,0 +1,128 @@
+-- The lowest line at which something is too long is found one by one, and there is one such line.
+use Rattle.std.proofs.Common.{◌≡◌, ◌∙◌, sym, subst, refl, ℕ, ◌<◌, ◌≤◌, nat_lt, Bool, true, false, List, [], ◌∷◌, ◌++◌, append_assoc, append-nil, Option, Some, None, ◌⊎◌, inl, inr, arith, if◌then◌else◌}
+use Rattle.std.specs.List.{AllByRecursion, AllZip, zip}
+use Rattle.std.proofs.lemmas.Bool.{ltb-false, ltb-true}
+use Rattle.play_meaning.specs.declared.operand.Counts.{Counts}
+use Rattle.code_table.specs.Emitted.{AllShort, IsShort, IsToldLong}
+use Rattle.code_table.specs.Origins.{Origin}
+use Rattle.story_code.specs.SoundlyEmitted.{among}
+use Rattle.code_table.specs.Origins.{Fits}
+use Rattle.story_file.specs.LongOnes.{AreShort, IsFound, IsLineTold, IsLowest, Lined, lower, lowest}
+
+-- ---- lists
+
+module _ {A : Type 0} (P : A → Type 0) where
+  both : (xs ys : List A) → AllByRecursion P xs → AllByRecursion P ys → AllByRecursion P (xs ++ ys)
+  both [] ys first second = second
+  both (x ∷ xs) ys first second = (first.0, both xs ys first.1 second)
+
+  first_of : (xs ys : List A) → AllByRecursion P (xs ++ ys) → AllByRecursion P xs
+  first_of [] ys all = tt
+  first_of (x ∷ xs) ys all = (all.0, first_of xs ys all.1)
+
+  last_of : (xs : List A) (x : A) → AllByRecursion P (xs ++ x ∷ []) → P x
+  last_of [] x all = all.0
+  last_of (y ∷ xs) x all = last_of xs x all.1
+
+more : {A : Type 0} (P Q : A → Type 0) → ((x : A) → P x → Q x) → (xs : List A) → AllByRecursion P xs → AllByRecursion Q xs
+more P Q f [] all = tt
+more P Q f (x ∷ xs) all = (f x all.0, more P Q f xs all.1)
+
+module _ (z : Counts) (string : List ℕ → ℕ) where
+  abbrev Short : Lined → Type 0
+  Short one = AllShort z string one.1
+
+  abbrev Below : ℕ → Lined → Type 0
+  Below line one = one.0 < line → AllShort z string one.1
+
+  abbrev At : ℕ → Lined → Type 0
+  At line one = one.0 ≡ line → AllShort z string one.1
+
+  -- ---- one by one
+
+  short_behind : (before : List Lined) (one : Lined) (found : Option ℕ) → AllShort z string one.1 → IsFound z string before found → IsFound z string (before ++ one ∷ []) found
+  short_behind before one None short all = both Short before (one ∷ []) all (short, tt)
+  short_behind before one (Some line) short is = record {
+    below = both (Below line) before (one ∷ []) is.below ((λ less. short), tt);
+    there = λ all. is.there (first_of (At line) before (one ∷ []) all);
+  }
+
+  long_behind : (before : List Lined) (line : ℕ) (origins : List Origin) (found : Option ℕ) → (AllShort z string origins → ⊥) → IsFound z string before found → IsFound z string (before ++ (line, origins) ∷ []) (Some (lower found line))
+  long_behind before line origins None long all = record {
+    below = both (Below line) before ((line, origins) ∷ []) (more Short (Below line) (λ one short less. short) before all) ((λ less. absurd (omega (arith, less))), tt);
+    there = λ short. long (last_of (At line) before (line, origins) short refl);
+  }
+  long_behind before line origins (Some other) long is = by (nat_lt line other) refl
+    where
+      by : (b : Bool) → nat_lt line other ≡ b → IsLowest z string (before ++ (line, origins) ∷ []) (if b then line else other)
+      by true less =
+          let lower : line < other = ltb-true line other less in
+          record {
+            below = both (Below line) before ((line, origins) ∷ []) (more (Below other) (Below line) (λ one short less. short (omega (arith, less, lower))) before is.below) ((λ less. absurd (omega (arith, less))), tt);
+            there = λ short. long (last_of (At line) before (line, origins) short refl);
+          }
+      by false less =
+          let higher : other ≤ line = ltb-false line other less in
+          record {
+            below = both (Below other) before ((line, origins) ∷ []) is.below ((λ less. absurd (omega (arith, less, higher))), tt);
+            there = λ short. is.there (first_of (At other) before ((line, origins) ∷ []) short);
+          }
+
+  pub found_behind : (before : List Lined) (found : Option ℕ) (lines : List ℕ) (all : List (List Origin)) (longs : List Bool) → AllZip (IsToldLong z string) all longs → IsFound z string before found
+      → IsFound z string (before ++ zip lines all) (lowest found lines longs)
+  found_behind before found [] all longs told is = subst (λ l. IsFound z string l found) (sym (append-nil before)) is
+  found_behind before found (line ∷ lines) [] [] told is = subst (λ l. IsFound z string l found) (sym (append-nil before)) is
+  found_behind before found (line ∷ lines) [] (long ∷ longs) told is = absurd told
+  found_behind before found (line ∷ lines) (origins ∷ all) [] told is = absurd told
+  found_behind before found (line ∷ lines) (origins ∷ all) (true ∷ longs) told is =
+      let first = long_behind before line origins found told.0 is in
+      subst (λ l. IsFound z string l (lowest (Some (lower found line)) lines longs)) (append_assoc before ((line, origins) ∷ []) (zip lines all))
+      (found_behind (before ++ (line, origins) ∷ []) (Some (lower found line)) lines all longs told.1 first)
+  found_behind before found (line ∷ lines) (origins ∷ all) (false ∷ longs) told is =
+      let first = short_behind before (line, origins) found told.0 is in
+      subst (λ l. IsFound z string l (lowest found lines longs)) (append_assoc before ((line, origins) ∷ []) (zip lines all))
+      (found_behind (before ++ (line, origins) ∷ []) found lines all longs told.1 first)
+
+  -- ---- there is one
+
+  lowest_once : (all : List Lined) (line other : ℕ) → IsLowest z string all line → IsLowest z string all other → line < other → ⊥
+  lowest_once all line other one second less = one.there (more (Below other) (At line) (λ part short at. short (subst (λ n. n < other) (sym at) less)) all second.below)
+
+  short_or_lowest : (all : List Lined) (line : ℕ) → AreShort z string all → IsLowest z string all line → ⊥
+  short_or_lowest all line short is = is.there (more Short (At line) (λ part whole at. whole) all short)
+
+  pub line_once : (all : List Lined) (line other : ℕ) → IsLineTold z string all line → IsLineTold z string all other → line ≡ other
+  line_once all line other (inl one) (inl second) = omega (arith, λ (less : line < other). lowest_once all line other one second less, λ (less : other < line). lowest_once all other line second one less)
+  line_once all line other (inl one) (inr second) = absurd (short_or_lowest all line second.0 one)
+  line_once all line other (inr one) (inl second) = absurd (short_or_lowest all other one.0 second)
+  line_once all line other (inr one) (inr second) = one.1 ∙ sym second.1
+
+-- ---- by the counts of the tables without codes
+
+module _ (z y : Counts) (string : List ℕ → ℕ) (are : (own codes : ℕ) → among z own codes ≡ among y own codes) where
+  short_so : (origins : List Origin) → AllShort z string origins → AllShort y string origins
+  short_so [] all = tt
+  short_so (origin ∷ origins) all =
+      let first : IsShort y string origin = record { fits = λ own codes. subst (λ (x : Counts). Fits x string origin) (are own codes) (all.0.fits own codes); said = all.0.said } in
+      (first, short_so origins all.1)
+
+told_so : (z y : Counts) (string : List ℕ → ℕ) → ((own codes : ℕ) → among z own codes ≡ among y own codes) → (origins : List Origin) (long : Bool) → IsToldLong z string origins long → IsToldLong y string origins long
+told_so z y string are origins true long = λ short. long (short_so y z string (λ own codes. sym (are own codes)) origins short)
+told_so z y string are origins false short = short_so z y string are origins short
+
+pub all_told_so : (z y : Counts) (string : List ℕ → ℕ) → ((own codes : ℕ) → among z own codes ≡ among y own codes) → (all : List (List Origin)) (longs : List Bool) → AllZip (IsToldLong z string) all longs
+    → AllZip (IsToldLong y string) all longs
+all_told_so z y string are [] [] told = tt
+all_told_so z y string are [] (long ∷ longs) told = absurd told
+all_told_so z y string are (origins ∷ all) [] told = absurd told
+all_told_so z y string are (origins ∷ all) (long ∷ longs) told = (told_so z y string are origins long told.0, all_told_so z y string are all longs told.1)
+
+-- ---- as it is told
+
+abbrev pub line_or_one : Option ℕ → ℕ
+line_or_one None = 1
+line_or_one (Some line) = line
+
+pub found_told : (z : Counts) (string : List ℕ → ℕ) (all : List Lined) (found : Option ℕ) (line : ℕ) → IsFound z string all found → line ≡ line_or_one found → IsLineTold z string all line
+found_told z string all None line short is = inr (short, is)
+found_told z string all (Some low) line lowest is = inl (subst (IsLowest z string all) (sym is) lowest)
