@@ -1,6 +1,7 @@
 pub mod Behind
 pub mod Coded
 pub mod Counted
+pub mod EachAlone
 pub mod Decided
 pub mod Grown
 pub mod Heads
