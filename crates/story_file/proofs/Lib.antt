@@ -9,6 +9,7 @@ pub mod MadeDeclarations
 pub mod MadeObjects
 pub mod MadePlaces
 pub mod NounsAgree
+pub mod ObjectNames
 pub mod OneRefusal
 pub mod Outcomes
 pub mod Ranges

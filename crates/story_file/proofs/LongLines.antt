@@ -1,12 +1,13 @@
 -- The lowest line at which something is too long is found one by one, and there is one such line.
-use Rattle.std.proofs.Common.{◌≡◌, ◌∙◌, sym, subst, refl, ℕ, ◌<◌, ◌≤◌, nat_lt, Bool, true, false, List, [], ◌∷◌, ◌++◌, append_assoc, append-nil, Option, Some, None, ◌⊎◌, inl, inr, arith, if◌then◌else◌}
+use Rattle.std.proofs.Common.{◌≡◌, ◌∙◌, ap, sym, subst, refl, ℕ, ◌-◌, ◌<◌, ◌≤◌, nat_lt, Bool, true, false, List, [], ◌∷◌, ◌++◌, length, drop, take, get_or, append_assoc, append-nil, Option, Some, None, ◌⊎◌, inl, inr, arith, if◌then◌else◌}
+use Rattle.std.specs.Prelude.{map}
 use Rattle.std.specs.List.{AllByRecursion, AllZip, zip}
 use Rattle.std.proofs.lemmas.Bool.{ltb-false, ltb-true}
 use Rattle.play_meaning.specs.declared.operand.Counts.{Counts}
 use Rattle.code_table.specs.Emitted.{AllShort, IsShort, IsToldLong}
-use Rattle.code_table.specs.Origins.{Origin}
+use Rattle.code_table.specs.Origins.{Fits, Origin}
+use Rattle.code_table.proofs.Stopped.{front_of, nothing_left}
 use Rattle.story_code.specs.SoundlyEmitted.{among}
-use Rattle.code_table.specs.Origins.{Fits}
 use Rattle.story_file.specs.LongOnes.{AreShort, IsFound, IsLineTold, IsLowest, Lined, lower, lowest}
 
 -- ---- lists
@@ -117,6 +118,29 @@ all_told_so z y string are [] (long ∷ longs) told = absurd told
 all_told_so z y string are (origins ∷ all) [] told = absurd told
 all_told_so z y string are (origins ∷ all) (long ∷ longs) told = (told_so z y string are origins long told.0, all_told_so z y string are all longs told.1)
 
+-- ---- as a loop tells it of one thing after the other
+
+module _ {X : Type 0} (R : X → Bool → Type 0) (all : List X) where
+  pub IsOnWay : List X → List Bool → Type 0
+  IsOnWay rest longs = (behind : List Bool) → AllZip R rest behind → AllZip R all (longs ++ behind)
+
+  pub begins : IsOnWay all []
+  begins behind told = told
+
+  grown : (x : X) (rest : List X) (longs : List Bool) (long : Bool) → R x long → IsOnWay (x ∷ rest) longs → IsOnWay rest (longs ++ long ∷ [])
+  grown x rest longs long told way behind others = subst (AllZip R all) (sym (append_assoc longs (long ∷ []) behind)) (way (long ∷ behind) (told, others))
+
+  -- of things that mean them
+  module _ {Y : Type 0} (m : Y → X) where
+    pub grows : (rest : List Y) (y : Y) (longs more : List Bool) (long : Bool) → 1 ≤ length rest → y ≡ get_or rest 0 y → R (m y) long → more ≡ longs ++ long ∷ [] → IsOnWay (map m rest) longs
+        → IsOnWay (map m (take (length rest - 1) (drop 1 rest))) more
+    grows rest y longs more long some at told is way =
+        let later = map m (take (length rest - 1) (drop 1 rest)) in
+        subst (IsOnWay later) (sym is) (grown (m y) later longs long told (subst (λ l. IsOnWay (map m l) longs) (front_of rest y some at) way))
+
+    pub ends : (rest : List Y) (longs : List Bool) → length rest < 1 → IsOnWay (map m rest) longs → AllZip R all longs
+    ends rest longs none way = subst (AllZip R all) (append-nil longs) (subst (λ l. IsOnWay (map m l) longs) (nothing_left rest none) way [] tt)
+
 -- ---- as it is told
 
 abbrev pub line_or_one : Option ℕ → ℕ
@@ -126,3 +150,19 @@ line_or_one (Some line) = line
 pub found_told : (z : Counts) (string : List ℕ → ℕ) (all : List Lined) (found : Option ℕ) (line : ℕ) → IsFound z string all found → line ≡ line_or_one found → IsLineTold z string all line
 found_told z string all None line short is = inr (short, is)
 found_told z string all (Some low) line lowest is = inl (subst (IsLowest z string all) (sym is) lowest)
+
+-- of descriptions, rules and scenes, each by its line
+pub line_found : (z : Counts) (string : List ℕ → ℕ) (text_at rule_at scene_at : List ℕ) (texts rules scenes : List (List Origin)) (long_texts long_rules long_scenes : List Bool) (line : ℕ)
+    → AllZip (IsToldLong z string) texts long_texts → AllZip (IsToldLong z string) rules long_rules → AllZip (IsToldLong z string) scenes long_scenes
+    → line ≡ line_or_one (lowest (lowest (lowest None text_at long_texts) rule_at long_rules) scene_at long_scenes)
+    → IsLineTold z string (zip text_at texts ++ (zip rule_at rules ++ zip scene_at scenes)) line
+line_found z string text_at rule_at scene_at texts rules scenes long_texts long_rules long_scenes line texts_told rules_told scenes_told is =
+    let first = found_behind z string [] None text_at texts long_texts texts_told tt in
+    let second = found_behind z string (zip text_at texts) (lowest None text_at long_texts) rule_at rules long_rules rules_told first in
+    let third = found_behind z string (zip text_at texts ++ zip rule_at rules) (lowest (lowest None text_at long_texts) rule_at long_rules) scene_at scenes long_scenes scenes_told second in
+    let all = subst (λ l. IsFound z string l (lowest (lowest (lowest None text_at long_texts) rule_at long_rules) scene_at long_scenes)) (append_assoc (zip text_at texts) (zip rule_at rules) (zip scene_at scenes)) third in
+    found_told z string (zip text_at texts ++ (zip rule_at rules ++ zip scene_at scenes)) (lowest (lowest (lowest None text_at long_texts) rule_at long_rules) scene_at long_scenes) line all is
+
+pub map_twice : {X Y Z : Type 0} (f : Y → Z) (g : X → Y) (xs : List X) → map (λ x. f (g x)) xs ≡ map f (map g xs)
+map_twice f g [] = refl
+map_twice f g (x ∷ xs) = ap (λ l. f (g x) ∷ l) (map_twice f g xs)

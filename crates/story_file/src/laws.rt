@@ -1,8 +1,12 @@
 //! What holds of every source, by the definitions alone.
-ghost use Rattle.std.specs.Prelude.{◌≡◌, ◌≢◌, ℕ, List};
+ghost use Rattle.std.specs.Prelude.{◌≡◌, ◌≢◌, ℕ, List, Ok, map};
 ghost use Rattle.world_meaning.specs.declared.fault.Fault.{Fault};
 ghost use Rattle.world_meaning.specs.declared.fault.FaultCode.TheVariants.{Memory};
 ghost use Rattle.world_meaning.specs.declared.tale.Tale.{Tale};
+ghost use Rattle.i7_claims.specs.Statements.{key_of};
+ghost use Rattle.i7_kinds.specs.Tales.{tale_said};
+ghost use Rattle.i7_names.specs.Numbering.{numbering_of};
+ghost use Rattle.i7_sentences.specs.declared.sentence.Sentence.{Sentence};
 ghost use Rattle.story_format.specs.Contents.{Contents};
 ghost use Rattle.story_format.specs.Holding.{AreOf, IsHeld};
 ghost use Rattle.story_file.specs.ActionNumbers.{NounsAgree, StandardNamesAgree};
@@ -49,3 +53,9 @@ pub fn one_refusal()
     one_text_is_meant();
     one_resolution();
 }
+
+/// The objects of a tale that sentences mean have the names by which rules and texts number them, in this order.
+pub fn objects_are_numbered_by_name()
+    ensures { (sentences : List Sentence) (tale : Tale) → tale_said sentences ≡ Ok tale
+        → map (λ object. key_of object.name) tale.objects ≡ (numbering_of sentences).objects }
+{}

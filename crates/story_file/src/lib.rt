@@ -13,8 +13,8 @@ mod worked_rows;
 pub use compiler::compile;
 pub use i7_kinds::{TaleSaid, tale_of};
 pub use laws::{
-    actions_are_numbered_alike, meant_tales_are_held, never_compiled_and_refused, one_refusal,
-    one_tale,
+    actions_are_numbered_alike, meant_tales_are_held, never_compiled_and_refused,
+    objects_are_numbered_by_name, one_refusal, one_tale,
 };
 pub use meaning::{Meant, tale_meant};
 pub use story_format::{LoadFault, Story, load, write};

@@ -30,11 +30,13 @@ fn texts_long(
     strings: &Strings,
     texts: &[Text],
 ) -> Result<Vec<bool>, AllocError>
-    ensures { IfOk result (λ longs. AllZip (IsToldLong counts.now (number_in strings.now)) (map one_text (map text_meant texts.now)) longs.items) }
+    ensures { IfOk result (λ longs. AllZip (IsToldLong counts.now (number_in strings.now)) (map (λ text. one_text (text_meant text)) texts.now) longs.items) }
 {
     let mut longs = Vec::new(alloc);
-    for text in texts {
+    let mut rest = texts;
+    while let [text, after @ ..] = rest {
         longs.push(text_is_long(alloc, counts, strings, text)?)?;
+        rest = after;
     }
     Ok(longs)
 }
@@ -46,11 +48,13 @@ fn rules_long(
     strings: &Strings,
     rules: &[MeantRule],
 ) -> Result<Vec<bool>, AllocError>
-    ensures { IfOk result (λ longs. AllZip (IsToldLong counts.now (number_in strings.now)) (map origins_of_rule (map rule_meant rules.now)) longs.items) }
+    ensures { IfOk result (λ longs. AllZip (IsToldLong counts.now (number_in strings.now)) (map (λ rule. origins_of_rule (rule_meant rule)) rules.now) longs.items) }
 {
     let mut longs = Vec::new(alloc);
-    for rule in rules {
+    let mut rest = rules;
+    while let [rule, after @ ..] = rest {
         longs.push(rule_is_long(alloc, counts, strings, rule)?)?;
+        rest = after;
     }
     Ok(longs)
 }
@@ -61,11 +65,13 @@ fn scenes_long(
     counts: &Counts,
     scenes: &[MeantScene],
 ) -> Result<Vec<bool>, AllocError>
-    ensures { (string : List ℕ → ℕ) → IfOk result (λ longs. AllZip (IsToldLong counts.now string) (map origins_of_scene (map scene_meant scenes.now)) longs.items) }
+    ensures { (string : List ℕ → ℕ) → IfOk result (λ longs. AllZip (IsToldLong counts.now string) (map (λ scene. origins_of_scene (scene_meant scene)) scenes.now) longs.items) }
 {
     let mut longs = Vec::new(alloc);
-    for scene in scenes {
+    let mut rest = scenes;
+    while let [scene, after @ ..] = rest {
         longs.push(scene_is_long(alloc, counts, scene)?)?;
+        rest = after;
     }
     Ok(longs)
 }

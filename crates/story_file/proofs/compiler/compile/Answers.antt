@@ -15,6 +15,16 @@ write-requires-clause-are_of c =
     let meant = c.in-Ok.meant in
     are_of c.args.source.now c.in_ok-sentences.sentences.items c.as_slice-sentences.result.now c.in_ok-sentences.ensures.said c.as_slice-sentences.ensures.value meant.tale (contents_meant meant.contents) c.in-Ok.ensures.meant
 
+pub fault_told-requires-clause-held : goal.fault_told-requires-clause-held
+fault_told-requires-clause-held c =
+    let meant = c.in-Ok.meant in
+    is_held c.args.source.now c.in_ok-sentences.sentences.items c.as_slice-sentences.result.now c.in_ok-sentences.ensures.said c.as_slice-sentences.ensures.value meant.tale (contents_meant meant.contents) c.in-Ok.ensures.meant
+
+pub fault_told-requires-clause-are_of : goal.fault_told-requires-clause-are_of
+fault_told-requires-clause-are_of c =
+    let meant = c.in-Ok.meant in
+    are_of c.args.source.now c.in_ok-sentences.sentences.items c.as_slice-sentences.result.now c.in_ok-sentences.ensures.said c.as_slice-sentences.ensures.value meant.tale (contents_meant meant.contents) c.in-Ok.ensures.meant
+
 pub returns-in-Ok-write : goal.returns-in-Ok-write
 returns-in-Ok-write c =
     let meant = c.in-Ok.meant in
