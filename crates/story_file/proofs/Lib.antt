@@ -10,11 +10,13 @@ pub mod MadeObjects
 pub mod MadePlaces
 pub mod NounsAgree
 pub mod ObjectNames
+pub mod ObjectTexts
 pub mod OneRefusal
 pub mod Outcomes
 pub mod Ranges
 pub mod Resolving
 pub mod GrammarOf
+pub mod RuleLines
 pub mod RulesOf
 pub mod ScenesOf
 pub mod Understood

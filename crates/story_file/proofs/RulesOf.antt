@@ -42,7 +42,7 @@ use Rattle.story_file.proofs.Resolving.{few_actions, said_of}
 -- ---- what is told of the rules
 
 -- where nothing refuses the sentences
-told_all : (k : Known) (recurring : List Bool) (sentences : List Sentence) (resolved : Resolved) → IsResolution k recurring sentences (resolution.Says resolved) → AreTold k (reverse (rules_in sentences)) (reverse resolved.rules.items)
+pub told_all : (k : Known) (recurring : List Bool) (sentences : List Sentence) (resolved : Resolved) → IsResolution k recurring sentences (resolution.Says resolved) → AreTold k (reverse (rules_in sentences)) (reverse resolved.rules.items)
 told_all k recurring sentences resolved is =
     subst (IsRulesFound k sentences) (said_of k recurring sentences resolved is).rules is.is_joined.rules_are
 

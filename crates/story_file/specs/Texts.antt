@@ -30,3 +30,9 @@ texts_kept texts = map text_meant texts
 abbrev pub AddsText : Scope → Option (List ℕ) → List Kept → List Kept → Type 0
 AddsText s None texts more = more ≡ texts
 AddsText s (Some bytes) texts more = (text : Kept) × ((more ≡ texts ++ text ∷ []) × SaysIn s bytes (text_meant text))
+
+-- ---- as a story has them
+
+-- there is a text, and these bytes say it
+abbrev pub HasTextSaid : Scope → List ℕ → Option Text → Type 0
+HasTextSaid s bytes found = (text : Text) × ((found ≡ Some text) × SaysIn s bytes text)

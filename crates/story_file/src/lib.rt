@@ -14,7 +14,8 @@ pub use compiler::compile;
 pub use i7_kinds::{TaleSaid, tale_of};
 pub use laws::{
     actions_are_numbered_alike, meant_tales_are_held, never_compiled_and_refused,
-    objects_are_numbered_by_name, one_refusal, one_tale,
+    objects_are_numbered_by_name, objects_have_their_texts, one_refusal, one_tale,
+    rules_stand_at_their_lines,
 };
 pub use meaning::{Meant, tale_meant};
 pub use story_format::{LoadFault, Story, load, write};
