@@ -13,6 +13,7 @@ pub mod InTurn
 pub mod Joinings
 pub mod Landed
 pub mod Listed
+pub mod Longer
 pub mod Looped
 pub mod Marking
 pub mod Passing

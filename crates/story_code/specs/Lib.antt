@@ -9,6 +9,7 @@ pub mod Fitting
 pub mod FittingRows
 pub mod Fronts
 pub mod Laws
+pub mod Longer
 pub mod Passes
 pub mod Runs
 pub mod Sayable

@@ -8,6 +8,7 @@ ghost use Rattle.play_meaning.specs.declared.operand.Counts.{Counts};
 ghost use Rattle.story_code.specs.Runs.{AreDescribedBy, AreSoundTogether, IsServed, LoopsSuit, MayDo};
 ghost use Rattle.story_code.specs.Steps.{CarriesOn, DoneSo, LeadsBack, StepsSo, leads_on};
 ghost use Rattle.story_code.specs.declared.step.Step.{Step};
+ghost use Rattle.story_code.specs.Longer.{IsLonger};
 
 use crate::changing::{
     end_story, make_number, make_so, make_value, make_variable, move_to, put, take_away,
@@ -29,7 +30,7 @@ use world_meaning::Abandon;
 pub const MOST_WORK: u32 = 10_000;
 
 /// Does an instruction that changes the world, or reads it, or says something.
-#[tactic(auto, unfolding(play_meaning::specs::Machines::does))]
+#[tactic(auto, using(crate::proofs::Longer::longer_rules), unfolding(play_meaning::specs::Machines::does))]
 #[inline(always)]
 fn change<G: GroundMut>(
     alloc: Global,
@@ -49,6 +50,7 @@ fn change<G: GroundMut>(
     ensures fixed { G.fixed ground.new ≡ G.fixed ground.old }
     ensures small { (z : Counts) → OnOk result (GivesObject (gives z instruction) state.new.operands) }
     ensures same { state.new.code ≡ state.old.code }
+    ensures longer { IsLonger text.old.items text.new.items }
 {
     match instruction {
         Instruction::SetFlag(property, value) => {
@@ -84,8 +86,10 @@ fn change<G: GroundMut>(
         }
         Instruction::EndStory(string) => end_story(alloc, ground, string)?,
         _ => {
-            go_on(alloc, ground, codes, now, state, text, instruction)?;
-            return Ok(());
+            return match go_on(alloc, ground, codes, now, state, text, instruction) {
+                Ok(()) => Ok(()),
+                Err(reason) => Err(reason),
+            };
         }
     }
     state.pass(instruction);
@@ -128,7 +132,7 @@ fn turn<G: Ground>(
 }
 
 /// Does an instruction behind which the run goes on.
-#[tactic(auto, unfolding(play_meaning::specs::Machines::does))]
+#[tactic(auto, using(crate::proofs::Longer::longer_rules), unfolding(play_meaning::specs::Machines::does))]
 #[inline(always)]
 fn carry_on<G: GroundMut>(
     alloc: Global,
@@ -149,6 +153,7 @@ fn carry_on<G: GroundMut>(
     ensures fixed { G.fixed ground.new ≡ G.fixed ground.old }
     ensures small { (z : Counts) → OnOk result (GivesObject (gives z instruction) state.new.operands) }
     ensures same { state.new.code ≡ state.old.code }
+    ensures longer { IsLonger text.old.items text.new.items }
 {
     match instruction {
         Instruction::Begin(_) => {
@@ -179,7 +184,7 @@ fn carry_on<G: GroundMut>(
 }
 
 /// Does an instruction of a body.
-#[tactic(auto, unfolding(play_meaning::specs::Machines::does))]
+#[tactic(auto, using(crate::proofs::Longer::longer_rules), unfolding(play_meaning::specs::Machines::does))]
 #[inline(always)]
 fn do_in_body<G: GroundMut>(
     alloc: Global,
@@ -200,6 +205,7 @@ fn do_in_body<G: GroundMut>(
     ensures fixed { G.fixed ground.new ≡ G.fixed ground.old }
     ensures small { (z : Counts) → OnOk result (GivesObject (gives z instruction) state.new.operands) }
     ensures same { state.new.code ≡ state.old.code }
+    ensures longer { IsLonger text.old.items text.new.items }
 {
     match instruction {
         Instruction::Try(silent, action) => {
@@ -235,6 +241,7 @@ fn do_in_body<G: GroundMut>(
 /// Out of range where a sum, a difference or a product is; too much work where a loop turns behind ten thousand units of
 /// work; want of memory where a text found none, or a change can't be remembered. The world is as it was then, and nothing more
 /// is remembered; a part of the text may have been added.
+#[tactic(auto, using(crate::proofs::Longer::longer_rules))]
 pub fn step_plain<G: GroundMut>(
     alloc: Global,
     ground: &mut G,
@@ -252,6 +259,7 @@ pub fn step_plain<G: GroundMut>(
     ensures kept { OnErr result ((G.world ground.new ≡ G.world ground.old) × (G.past ground.new ≡ G.past ground.old)) }
     ensures past { LeadsBack (G.world ground.old) (G.past ground.old) (G.world ground.new) (G.past ground.new) }
     ensures fixed { G.fixed ground.new ≡ G.fixed ground.old }
+    ensures longer { IsLonger text.old.items text.new.items }
 {
     match fetch(codes, state) {
         Some(instruction) => {

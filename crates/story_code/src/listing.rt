@@ -3,6 +3,7 @@ ghost use Rattle.std.specs.Prelude.{◌≡◌, Err, Ok, OnErr, OnOk, length};
 ghost use Rattle.play_meaning.specs.declared.instruction.Instruction.TheVariants.{Names};
 ghost use Rattle.story_code.specs.Runs.{AreSoundTogether, IsNamedTest, IsServed, LoopsSuit, PassingAre, Proceeds, Tells, kept_if};
 ghost use Rattle.world_meaning.specs.declared.session.Abandon.TheVariants.{Memory};
+ghost use Rattle.story_code.specs.Longer.{IsLonger};
 
 use crate::naming::say_listed;
 use crate::state::RunState;
@@ -59,6 +60,7 @@ fn passing_in<G: Ground>(
 }
 
 /// Says the names of the objects that pass a test.
+#[tactic(auto, using(crate::proofs::Longer::longer_rules))]
 pub fn say_passing<G: Ground>(
     alloc: Global,
     ground: &G,
@@ -73,6 +75,7 @@ pub fn say_passing<G: Ground>(
     requires loops { LoopsSuit codes.now state.old (Names listing.naming listing.number listing.test) }
     ensures step { Proceeds (G.fixed ground.now) codes.now now.now (G.world ground.now) (Names listing.naming listing.number listing.test) state.old text.old.items result state.new text.new.items }
     ensures same { state.new.code ≡ state.old.code }
+    ensures longer { IsLonger text.old.items text.new.items }
 {
     match passing_in(alloc, ground, codes, now, state, listing.test) {
         Ok(objects) => {

@@ -5,15 +5,18 @@ ghost use Rattle.play_meaning.specs.Saying.{article_of, joint, listed, listed_on
 ghost use Rattle.play_meaning.specs.Values.{value_at};
 ghost use Rattle.play_meaning.specs.declared.naming.Naming.TheVariants.{CapitalDefinite, CapitalIndefinite, Definite, Indefinite};
 ghost use Rattle.world_meaning.specs.declared.session.Abandon.TheVariants.{Memory};
+ghost use Rattle.story_code.specs.Longer.{IsLonger};
 
 use play_meaning::{Ground, Naming};
 use std::alloc::Global;
 use world_meaning::{Abandon, Article, ObjNo};
 
 /// Adds bytes to what is said.
+#[tactic(auto, using(crate::proofs::Longer::longer_rules))]
 pub fn say(text: &mut Vec<u8>, bytes: &[u8]) -> Result<(), Abandon>
     ensures said { OnOk result (text.new.items ≡ text.old.items ++ bytes.now) }
     ensures refused { OnErr result (result ≡ Err Memory) }
+    ensures longer { IsLonger text.old.items text.new.items }
 {
     match text.extend_from_slice(bytes) {
         Ok(()) => Ok(()),
@@ -22,9 +25,11 @@ pub fn say(text: &mut Vec<u8>, bytes: &[u8]) -> Result<(), Abandon>
 }
 
 /// Adds a number in decimal.
+#[tactic(auto, using(crate::proofs::Longer::longer_rules))]
 pub fn say_figure(alloc: Global, text: &mut Vec<u8>, number: i32) -> Result<(), Abandon>
     ensures said { OnOk result (text.new.items ≡ text.old.items ++ signed_decimal number) }
     ensures refused { OnErr result (result ≡ Err Memory) }
+    ensures longer { IsLonger text.old.items text.new.items }
 {
     match number.to_string(alloc) {
         Ok(figure) => say(text, figure.as_bytes()),
@@ -90,6 +95,7 @@ fn article_of(naming: Naming, article: Article) -> &'static [u8]
 }
 
 /// Adds an object's name.
+#[tactic(auto, using(crate::proofs::Longer::longer_rules))]
 fn say_named<G: Ground>(
     ground: &G,
     text: &mut Vec<u8>,
@@ -98,6 +104,7 @@ fn say_named<G: Ground>(
 ) -> Result<(), Abandon>
     ensures said { OnOk result (text.new.items ≡ text.old.items ++ named (G.fixed ground.now).setting naming object) }
     ensures refused { OnErr result (result ≡ Err Memory) }
+    ensures longer { IsLonger text.old.items text.new.items }
 {
     say(text, article_of(naming, ground.article(object)))?;
     say(text, ground.name(object))?;
@@ -105,6 +112,7 @@ fn say_named<G: Ground>(
 }
 
 /// Adds an object's name, or that it is nothing.
+#[tactic(auto, using(crate::proofs::Longer::longer_rules))]
 pub fn say_name<G: Ground>(
     ground: &G,
     text: &mut Vec<u8>,
@@ -113,6 +121,7 @@ pub fn say_name<G: Ground>(
 ) -> Result<(), Abandon>
     ensures said { OnOk result (text.new.items ≡ text.old.items ++ name_in (G.fixed ground.now).setting naming object) }
     ensures refused { OnErr result (result ≡ Err Memory) }
+    ensures longer { IsLonger text.old.items text.new.items }
 {
     match object {
         Some(object) => say_named(ground, text, naming, object),
@@ -131,6 +140,7 @@ fn value_at<G: Ground>(ground: &G, kind: u8, object: Option<ObjNo>) -> Option<u8
 }
 
 /// Adds the name of an object's value of a kind of value, or that it is nothing.
+#[tactic(auto, using(crate::proofs::Longer::longer_rules))]
 pub fn say_value<G: Ground>(
     ground: &G,
     text: &mut Vec<u8>,
@@ -139,6 +149,7 @@ pub fn say_value<G: Ground>(
 ) -> Result<(), Abandon>
     ensures said { OnOk result (text.new.items ≡ text.old.items ++ value_name (G.fixed ground.now).setting kind (value_at (G.fixed ground.now).setting (G.world ground.now) kind object)) }
     ensures refused { OnErr result (result ≡ Err Memory) }
+    ensures longer { IsLonger text.old.items text.new.items }
 {
     match value_at(ground, kind, object) {
         Some(value) => say(text, ground.value_name(kind, value)),
@@ -157,6 +168,7 @@ fn joint(behind: &[ObjNo]) -> &'static [u8]
 }
 
 /// Adds the objects of a list behind its first.
+#[tactic(auto, using(crate::proofs::Longer::longer_rules))]
 fn say_others<G: Ground>(
     ground: &G,
     text: &mut Vec<u8>,
@@ -165,6 +177,7 @@ fn say_others<G: Ground>(
 ) -> Result<(), Abandon>
     ensures said { OnOk result (text.new.items ≡ text.old.items ++ listed_on (G.fixed ground.now).setting naming objects.now) }
     ensures refused { OnErr result (result ≡ Err Memory) }
+    ensures longer { IsLonger text.old.items text.new.items }
 {
     let mut rest = objects;
     while let [object, behind @ ..] = rest {
@@ -176,6 +189,7 @@ fn say_others<G: Ground>(
 }
 
 /// Adds objects as a list, or that they are nothing.
+#[tactic(auto, using(crate::proofs::Longer::longer_rules))]
 pub fn say_listed<G: Ground>(
     ground: &G,
     text: &mut Vec<u8>,
@@ -184,6 +198,7 @@ pub fn say_listed<G: Ground>(
 ) -> Result<(), Abandon>
     ensures said { OnOk result (text.new.items ≡ text.old.items ++ listed (G.fixed ground.now).setting naming objects.now) }
     ensures refused { OnErr result (result ≡ Err Memory) }
+    ensures longer { IsLonger text.old.items text.new.items }
 {
     match objects {
         [] => say(text, b"nothing"),

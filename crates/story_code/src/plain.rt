@@ -1,6 +1,7 @@
 //! A test or a description, run whole.
 ghost use Rattle.story_code.specs.Runs.{AreSoundTogether, MayRead};
 ghost use Rattle.story_code.specs.Testing.{IsReadFrom};
+ghost use Rattle.story_code.specs.Longer.{IsLonger};
 
 use crate::came::Came;
 use crate::fetching::fetch;
@@ -17,6 +18,7 @@ use world_meaning::Abandon;
 /// # Errors
 /// Out of range where a sum, a difference or a product is; want of memory where the text found none. A part of the text may
 /// have been added then.
+#[tactic(auto, using(crate::proofs::Longer::longer_rules))]
 pub fn read_plain<G: Ground>(
     alloc: Global,
     ground: &G,
@@ -27,7 +29,8 @@ pub fn read_plain<G: Ground>(
 ) -> Result<bool, Abandon>
     requires sound { AreSoundTogether codes.now }
     requires stands { MayRead codes.now state.old }
-    ensures { IsReadFrom (G.fixed ground.now) codes.now now.now (G.world ground.now) state.old text.old.items state.new.work text.new.items result }
+    ensures read { IsReadFrom (G.fixed ground.now) codes.now now.now (G.world ground.now) state.old text.old.items state.new.work text.new.items result }
+    ensures longer { IsLonger text.old.items text.new.items }
 {
     while let Some(instruction) = fetch(codes, state) {
         match describe(alloc, ground, codes, now, state, text, instruction) {

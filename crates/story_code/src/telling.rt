@@ -5,6 +5,7 @@ ghost use Rattle.play_meaning.specs.Operands.{gives};
 ghost use Rattle.play_meaning.specs.Stands.{GivesObject};
 ghost use Rattle.play_meaning.specs.declared.operand.Counts.{Counts};
 ghost use Rattle.story_code.specs.Runs.{AreSoundTogether, CameTo, IsServed, LoopsSuit, Proceeds};
+ghost use Rattle.story_code.specs.Longer.{IsLonger};
 
 use crate::came::Came;
 use crate::listing::{Listing, say_passing};
@@ -18,7 +19,7 @@ use std::alloc::Global;
 use world_meaning::Abandon;
 
 /// Does an instruction that says something, or gives a number, a truth or an object.
-#[tactic(auto, unfolding(play_meaning::specs::Machines::does))]
+#[tactic(auto, using(crate::proofs::Longer::longer_rules), unfolding(play_meaning::specs::Machines::does))]
 #[inline(always)]
 fn tell<G: Ground>(
     alloc: Global,
@@ -35,6 +36,7 @@ fn tell<G: Ground>(
     ensures step { Proceeds (G.fixed ground.now) codes.now now.now (G.world ground.now) instruction state.old text.old.items result state.new text.new.items }
     ensures small { (z : Counts) → OnOk result (GivesObject (gives z instruction) state.new.operands) }
     ensures same { state.new.code ≡ state.old.code }
+    ensures longer { IsLonger text.old.items text.new.items }
 {
     match instruction {
         Instruction::Say(string) => say(text, ground.string(string))?,
@@ -60,7 +62,7 @@ fn tell<G: Ground>(
 }
 
 /// Does an instruction that changes nothing but what is said, and behind which a run goes on.
-#[tactic(auto, unfolding(play_meaning::specs::Machines::does))]
+#[tactic(auto, using(crate::proofs::Longer::longer_rules), unfolding(play_meaning::specs::Machines::does))]
 #[inline(always)]
 pub fn go_on<G: Ground>(
     alloc: Global,
@@ -77,6 +79,7 @@ pub fn go_on<G: Ground>(
     ensures step { Proceeds (G.fixed ground.now) codes.now now.now (G.world ground.now) instruction state.old text.old.items result state.new text.new.items }
     ensures small { (z : Counts) → OnOk result (GivesObject (gives z instruction) state.new.operands) }
     ensures same { state.new.code ≡ state.old.code }
+    ensures longer { IsLonger text.old.items text.new.items }
 {
     match instruction {
         Instruction::IfZero(place) => {
@@ -106,7 +109,7 @@ pub fn go_on<G: Ground>(
 }
 
 /// Does an instruction of a test or a description.
-#[tactic(auto, unfolding(play_meaning::specs::Machines::does))]
+#[tactic(auto, using(crate::proofs::Longer::longer_rules), unfolding(play_meaning::specs::Machines::does))]
 pub fn describe<G: Ground>(
     alloc: Global,
     ground: &G,
@@ -122,6 +125,7 @@ pub fn describe<G: Ground>(
     ensures step { CameTo (G.fixed ground.now) codes.now now.now (G.world ground.now) instruction state.old text.old.items result state.new text.new.items }
     ensures small { (z : Counts) → OnOk result (GivesObject (gives z instruction) state.new.operands) }
     ensures same { state.new.code ≡ state.old.code }
+    ensures longer { IsLonger text.old.items text.new.items }
 {
     match instruction {
         Instruction::Answer => Ok(Came::Answered(is_true(state.take()))),

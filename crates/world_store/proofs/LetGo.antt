@@ -1,6 +1,6 @@
 -- What a log tells whose first changes are let go of.
 use Rattle.std.proofs.Common.{◌≡◌, ◌∙◌, sym, ap, refl, subst, ℕ, zero, suc, ◌+◌, ◌-◌, ◌≤◌, List, [], ◌∷◌, ◌++◌, length, arith}
-use Rattle.std.specs.Prelude.{Some, drop, slice_get, slice_index_or, take}
+use Rattle.std.specs.Prelude.{drop, slice_index_or, take}
 use Rattle.play_meaning.specs.Worlds.{World}
 use Rattle.story_format.specs.declared.tables.Tables.{Tables}
 use Rattle.world_store.specs.Pasts.{past_of, story_world}

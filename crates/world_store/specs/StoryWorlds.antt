@@ -1,5 +1,5 @@
 -- A story in play: its tables, the world of the moment, whose lists have the lengths that the story gives, and the worlds before it.
-use Rattle.std.specs.Prelude.{◌≡◌, ◌<◌, ◌≤◌, ℕ, true, drop, List, [], ◌∷◌, ◌++◌, length, slice_get, slice_index_or, take, Some, Result}
+use Rattle.std.specs.Prelude.{◌≡◌, ◌<◌, ◌≤◌, ◌-◌, ℕ, true, drop, List, [], ◌∷◌, ◌++◌, length, slice_get, slice_index_or, take, Some, Result}
 use Rattle.object_tree.specs.Places.{holder_of}
 use Rattle.play_meaning.specs.Changes.{behind, remembered}
 use Rattle.play_meaning.specs.Settings.{room_kind}
@@ -34,6 +34,10 @@ reverted mark s = record s { world = slice_index_or (worlds s) mark s.world; pas
 -- the worlds in front of a place of the log are let go of: the first that is left is that at the place
 abbrev pub let_go : ℕ → StoryWorld → StoryWorld
 let_go mark s = record s { past = drop mark s.past }
+
+-- more changes stand in front of a place of the log than between it and a later one
+abbrev pub IsPastHalf : (mark last : ℕ) → Type 0
+IsPastHalf mark last = last - mark < mark
 
 -- each object has one of the values of each kind of value that its kind has
 abbrev pub HasChoices : Tables → World → Type 0

@@ -1,6 +1,6 @@
 //! Marks in the log of a world, to which it is turned back.
 ghost use Rattle.std.specs.Prelude.{◌≡◌, ◌↔◌, IsTrue, ◌≤◌, ◌<◌, ◌-◌, ◌∷◌, ◌++◌, [], length};
-ghost use Rattle.world_store.specs.StoryWorlds.{let_go, reverted};
+ghost use Rattle.world_store.specs.StoryWorlds.{IsPastHalf, let_go, reverted};
 
 use crate::World;
 use std::marker::Model;
@@ -35,7 +35,9 @@ impl Mark {
     }
 
     /// Whether more changes stand in front of it than between it and a later mark.
-    pub fn is_past_half(self, last: Mark) -> bool {
+    pub fn is_past_half(self, last: Mark) -> bool
+        ensures { IsTrue result ↔ IsPastHalf self last }
+    {
         self.0 > last.0.saturating_sub(self.0)
     }
 }

@@ -12,13 +12,13 @@ read_plain-requires-clause-stands g c =
 pub returns-in-Ok : goal.returns-in-Ok
 returns-in-Ok g c =
     said_as (g.G.Ground.fixed c.args.ground.now) c.args.codes.now c.args.now.now (g.G.Ground.world c.args.ground.now) c.args.number c.requires.sound c.requires.describes
-    c.new-state.result c.new-state.ensures c.new-text.result.items c.new-text.ensures.items c.in-Ok.field-0 c.read_plain.new.text.items c.read_plain.new.state.work c.in-Ok.ensures
+    c.new-state.result c.new-state.ensures c.new-text.result.items c.new-text.ensures.items c.in-Ok.field-0 c.read_plain.new.text.items c.read_plain.new.state.work c.in-Ok.ensures.read
 
 pub returns-in-Err : goal.returns-in-Err
 returns-in-Err g c granted =
     let fixed = g.G.Ground.fixed c.args.ground.now in
     let w = g.G.Ground.world c.args.ground.now in
-    let ends = c.in-Err.ensures granted in
+    let ends = c.in-Err.ensures.read granted in
     says_so fixed c.args.codes.now c.args.now.now w c.args.number (Abandons c.in-Err.reason)
     (subst (λ text. EndsSo fixed c.args.codes.now c.args.now.now w (begun c.args.number []) text (Abandons c.in-Err.reason)) c.new-text.ensures.items
     (subst (λ (s : Standing). EndsSo fixed c.args.codes.now c.args.now.now w s c.new-text.result.items (Abandons c.in-Err.reason)) c.new-state.ensures ends))
