@@ -1,8 +1,8 @@
 """What a page shows of sources and plays, each as it is and as it is shown.
 
 A block ```inform7 is a source, and so is the file of a link that ends in `.i7`. Behind it a block ```part stands in it whole, a block
-```transcript is what is written for the commands that stand behind its prompts, and a block ```refused how it is refused, where its path is
-story.i7. A source is taken, but in front of ```refused.
+```transcript is what is written for the commands that stand behind its prompts, a block ```rules what `i7story rules` prints of it with the words
+that follow there, and a block ```refused how it is refused, where its path is story.i7. A source is taken, but in front of ```refused.
 
 Tables speak of the source in front of them, or of that of a block ```inform7 scene, if the page has one. A row of a table that ends in a code,
 or in `taken`, has a sentence or phrase that is refused with that code behind that source, or taken, and one that is taken. In a table one of
@@ -11,6 +11,7 @@ there, a piece for each line, or `a blank line`; where `is refused` is one, it i
 so, or not."""
 import pathlib
 import re
+import shlex
 import subprocess
 import tempfile
 
@@ -30,13 +31,17 @@ WAYS = {
 }
 
 
-def ran(program, source, commands):
-    """What is written for a source and these commands on both streams, its path being story.i7."""
+def printed(program, source, words, commands=""):
+    """What the program writes on both streams for these words and commands, the source's path being story.i7."""
     with tempfile.TemporaryDirectory() as room:
         pathlib.Path(room, "story.i7").write_text(source)
-        words = [program, "run", "story.i7", "--transcript"]
-        done = subprocess.run(words, cwd=room, input=commands.encode(), stdout=subprocess.PIPE, stderr=subprocess.STDOUT, timeout=60)
+        done = subprocess.run([program, *words], cwd=room, input=commands.encode(), stdout=subprocess.PIPE, stderr=subprocess.STDOUT, timeout=60)
     return done.stdout.decode()
+
+
+def ran(program, source, commands):
+    """What is written for a source and these commands."""
+    return printed(program, source, ["run", "story.i7", "--transcript"], commands)
 
 
 def played(program, source, transcript):
@@ -115,6 +120,8 @@ def of_block(program, source, sort, block):
         yield block[:40], played(program, source, block).rstrip("\n"), block.rstrip("\n")
     elif sort == "refused":
         yield block[:40], ran(program, source, ""), block
+    elif sort.startswith("rules"):
+        yield block[:40], printed(program, source, ["rules", "story.i7", *shlex.split(sort)[1:]]), block
 
 
 def shown(program, page):
