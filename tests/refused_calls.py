@@ -82,8 +82,8 @@ FURNISHED = {
     "revert": 9,
 }
 # Of a world with scenes and values but neither numbers nor variables: a tree, properties, values and scenes. An index and the table of stored
-# rules ask for memory at all.
-OTHERS = {"start": 6, "set_scene": 7, "set_value": 7, "index": 1, "hosts": 1}
+# rules ask for memory at all; a rule that is added to a table asks for it twice, for its function and for its place.
+OTHERS = {"start": 6, "set_scene": 7, "set_value": 7, "index": 1, "hosts": 1, "add": 2}
 
 
 def main():

@@ -3,10 +3,10 @@ use crate::worlds::changes::{change_of, changed};
 use crate::worlds::pair::{are_same, reverted};
 use crate::worlds::words::Words;
 use object_tree::Tree;
-use play_meaning::{Change, WorldFault};
+use play_meaning::{ActionNow, Change, WorldFault};
 use rule_index::Index;
-use standard_rules::HostTable;
-use std::alloc::Global;
+use standard_rules::{HostAnswer, HostCall, HostRule, HostTable, standard};
+use std::alloc::{AllocError, Global};
 use std::fmt;
 use std::rc::Rc;
 use story_format::Story;
@@ -158,6 +158,25 @@ fn changing(alloc: Global, world: &World, call: &str) -> Answer {
     }
 }
 
+/// A stored rule whose function is a test's own.
+fn own_rule(alloc: Global, id: u8) -> Result<HostRule, AllocError> {
+    let call: HostCall = Box::new(
+        alloc,
+        move |alloc: Global, world: &World, now: &ActionNow| -> Result<HostAnswer, AllocError> {
+            standard(alloc, id, world, now)
+        },
+    )?;
+    Ok(HostRule::new(id, call))
+}
+
+/// Whether a table without rules takes one.
+fn is_added(alloc: Global) -> bool {
+    match own_rule(alloc, 1) {
+        Ok(rule) => HostTable::new(alloc).add(rule).is_ok(),
+        Err(_) => false,
+    }
+}
+
 /// What the call of a word answers.
 pub fn called(alloc: Global, story: &Rc<Story>, world: &World, word: &str) -> Answer {
     match word {
@@ -166,6 +185,7 @@ pub fn called(alloc: Global, story: &Rc<Story>, world: &World, word: &str) -> An
         "start" => made(World::start(alloc, story).is_ok()),
         "index" => made(Index::build(alloc, story).is_ok()),
         "hosts" => made(HostTable::standard(alloc).is_ok()),
+        "add" => made(is_added(alloc)),
         "copy" => made(world.copy(alloc).is_ok()),
         "see" => Answer::Told(sees_last(story.as_ref(), world)),
         "list" => Answer::Told(visible_count(story.as_ref(), world)),
