@@ -2,6 +2,7 @@
 use crate::testing::Trying;
 use clap::error::ErrorKind;
 use clap::{Arg, ArgAction, ArgMatches, Command, Error};
+use rule_listing::Words;
 use source_player::ProgramFault;
 use std::alloc::{AllocError, Global};
 
@@ -27,6 +28,7 @@ pub enum Order<'a> {
     },
     Rules {
         source: &'a str,
+        words: Words<'a>,
     },
     Run {
         source: &'a str,
@@ -91,12 +93,28 @@ fn listing<'a>(alloc: Global) -> Result<Command<'a>, AllocError> {
         .about(
             "Lists the rulebooks of a source, each with its rules in the order in which they are asked and what puts them there",
         )
-        .after_help("Example: i7story rules stories/ferry.i7")
+        .after_help("Example: i7story rules stories/ferry.i7 --for \"taking the oar\"")
         .arg(file(
             alloc,
             "SOURCE",
             "The source, a text as stories/two-rooms.i7 is one; - is standard input",
-        ))
+        ))?
+        .arg(
+            Arg::new(alloc, "for")
+                .long("for")
+                .value_name("ACTION")
+                .action(ArgAction::Set)
+                .help(
+                    "Only rules that admit this action, as \"taking the ball\"; \"taking\" alone stands for any noun",
+                ),
+        )?
+        .arg(
+            Arg::new(alloc, "in")
+                .long("in")
+                .value_name("ROOM")
+                .action(ArgAction::Set)
+                .help("Only rules that admit this room, as \"the Hall\""),
+        )
 }
 
 /// The form that tries kept transcripts.
@@ -203,6 +221,10 @@ fn order_of<'a>(
         }),
         "rules" => Some(Order::Rules {
             source: found.get_str("SOURCE")?,
+            words: Words {
+                action: found.get_str("for"),
+                room: found.get_str("in"),
+            },
         }),
         "run" => Some(Order::Run {
             source: found.get_str("SOURCE")?,
