@@ -22,6 +22,13 @@ pub enum Order<'a> {
         source: &'a str,
         story: &'a str,
     },
+    Index {
+        source: &'a str,
+        /// The file of the page, where it isn't standard output.
+        page: Option<&'a str>,
+        /// Whether the source stands in the page.
+        with_source: bool,
+    },
     Play {
         story: &'a str,
         playing: Playing<'a>,
@@ -117,6 +124,32 @@ fn listing<'a>(alloc: Global) -> Result<Command<'a>, AllocError> {
         )
 }
 
+/// The form that writes a story's index.
+fn indexing<'a>(alloc: Global) -> Result<Command<'a>, AllocError> {
+    Command::new(alloc, "index")
+        .about("Writes the index of a source: a page with its map, its world, kinds, actions, rules and words")
+        .after_help("Example: i7story index stories/museum.i7 -o museum.html")
+        .arg(file(
+            alloc,
+            "SOURCE",
+            "The source, a text as stories/two-rooms.i7 is one; - is standard input",
+        ))?
+        .arg(
+            Arg::new(alloc, "output")
+                .short('o')
+                .long("output")
+                .value_name("FILE")
+                .action(ArgAction::Set)
+                .help("Writes the page to FILE; without it the page goes to standard output"),
+        )?
+        .arg(
+            Arg::new(alloc, "source")
+                .long("source")
+                .action(ArgAction::SetTrue)
+                .help("Adds the source itself, its lines numbered, to which entries lead"),
+        )
+}
+
 /// The form that tries kept transcripts.
 fn testing<'a>(alloc: Global) -> Result<Command<'a>, AllocError> {
     let transcripts =
@@ -181,6 +214,7 @@ fn forms<'a>(alloc: Global) -> Result<Command<'a>, AllocError> {
         .after_help("Example: i7story run stories/two-rooms.i7, and then type: look")
         .subcommand_required(true);
     let program = with_form(program, compiling(alloc))?;
+    let program = with_form(program, indexing(alloc))?;
     let program = with_form(program, play_form(alloc))?;
     let program = with_form(program, listing(alloc))?;
     let program = with_form(program, run_form(alloc))?;
@@ -214,6 +248,11 @@ fn order_of<'a>(
         "compile" => Some(Order::Compile {
             source: found.get_str("SOURCE")?,
             story: found.get_str("STORY")?,
+        }),
+        "index" => Some(Order::Index {
+            source: found.get_str("SOURCE")?,
+            page: found.get_str("output"),
+            with_source: found.get_flag("source"),
         }),
         "play" => Some(Order::Play {
             story: found.get_str("STORY")?,

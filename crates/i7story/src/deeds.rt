@@ -13,6 +13,7 @@ use std::alloc::Global;
 use std::fs::{self, File};
 use std::io::{self, BufReader, ErrorKind, Read, Write};
 use story_file::compile;
+use story_index::index_page;
 use story_player::{RunFault, Watched};
 
 /// The path that is standard input where a file is read, and what it leads to.
@@ -105,6 +106,25 @@ fn list_rules<'a>(
     match rules_about(rt.alloc(), bytes.as_slice(), words) {
         Ok(told) => print(rt, told.as_bytes()),
         Err(error) => Err(unsought(rt.alloc(), source, error)),
+    }
+}
+
+/// Writes the page of a source file to standard output, or to a file.
+fn write_index<'a>(
+    rt: &HostRuntime,
+    source: &'a str,
+    page: Option<&'a str>,
+    with_source: bool,
+) -> Result<(), ProgramFault<'a>> {
+    let bytes = bytes_of(rt, source)?;
+    let told = match index_page(rt.alloc(), bytes.as_slice(), with_source) {
+        Ok(told) => told,
+        Err(unlisted) => return Err(untold(source, unlisted)),
+    };
+    match page {
+        None => print(rt, told.as_slice()),
+        Some(page) if is_source(rt, source, page) => Err(ProgramFault::CannotWrite(page)),
+        Some(page) => save(rt, page, told.as_slice()),
     }
 }
 
@@ -215,6 +235,11 @@ pub fn obey<'a>(rt: &HostRuntime, order: Order<'a>) -> Result<Verdict, ProgramFa
     match order {
         Order::Compile { source, story } => compile_file(rt, source, story)?,
         Order::Rules { source, words } => list_rules(rt, source, words)?,
+        Order::Index {
+            source,
+            page,
+            with_source,
+        } => write_index(rt, source, page, with_source)?,
         Order::Play { story, playing } => play_file(rt, story, Holds::Story, playing)?,
         Order::Run { source, playing } => play_file(rt, source, Holds::Source, playing)?,
         Order::Test {
