@@ -7,6 +7,7 @@ use crate::groups::{group_numbers, groups_of};
 use crate::levels::levels_of;
 use crate::order::keep_group;
 use crate::parting::{Levels, part_group};
+use crate::passing::clear_group;
 use crate::shelves::shelved;
 use crate::spot::{RoomWay, Spot, are_apart};
 use std::alloc::{AllocError, Global};
@@ -46,6 +47,7 @@ fn levels_for(
     alloc: Global,
     cells: &Cells,
     numbers: &[usize],
+    ways: &[RoomWay],
     groups: &[Vec<usize>],
 ) -> Result<Levels, AllocError> {
     let mut levels = Levels {
@@ -54,6 +56,7 @@ fn levels_for(
     };
     for group in groups {
         part_group(alloc, cells, &mut levels, numbers, group.as_slice())?;
+        clear_group(cells, &mut levels, numbers, ways, group.as_slice());
     }
     Ok(levels)
 }
@@ -69,7 +72,7 @@ fn drawn_out(
     let groups = groups.as_slice();
     let numbers = group_numbers(alloc, rooms, groups)?;
     let cells = cells_of(alloc, rooms, ways, numbers.as_slice(), groups)?;
-    let levels = levels_for(alloc, &cells, numbers.as_slice(), groups)?;
+    let levels = levels_for(alloc, &cells, numbers.as_slice(), ways, groups)?;
     shelved(alloc, rooms, &cells, &levels, groups)
 }
 

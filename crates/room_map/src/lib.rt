@@ -10,6 +10,7 @@ mod layout;
 mod levels;
 mod order;
 mod parting;
+mod passing;
 mod shelves;
 mod sight;
 mod spot;

@@ -20,7 +20,7 @@ impl Levels {
 }
 
 /// Puts in a level behind that of a line among a group's, and moves the line there.
-fn part_line(levels: &mut [i64], numbers: &[usize], line: usize) {
+pub fn part_line(levels: &mut [i64], numbers: &[usize], line: usize) {
     let level = at(levels, line, 0);
     let own = at(numbers, line, 0);
     for other in 0..levels.len() {

@@ -92,12 +92,19 @@ pub fn rulebooks_told(alloc: Global, source: &[u8]) -> Result<String, Unlisted> 
     }
 }
 
-/// The same of the rules alone that an action, its noun and a room admit.
-pub fn rules_about(alloc: Global, source: &[u8], words: Words<'_>) -> Result<String, Unsought> {
-    let outline = outline_of(alloc, source)?;
-    let sought = sought_of(alloc, &outline, words)?;
-    match told_of(alloc, &outline, &sought) {
+/// What is told of the source of an outline, of the rules that words seek.
+fn told_about(alloc: Global, outline: &Outline, words: Words<'_>) -> Result<String, Unsought> {
+    let sought = sought_of(alloc, outline, words)?;
+    match told_of(alloc, outline, &sought) {
         Ok(told) => Ok(told),
         Err(refused) => Err(Unsought::from(refused)),
+    }
+}
+
+/// The same of the rules alone that an action, its noun and a room admit.
+pub fn rules_about(alloc: Global, source: &[u8], words: Words<'_>) -> Result<String, Unsought> {
+    match outline_of(alloc, source) {
+        Ok(outline) => told_about(alloc, &outline, words),
+        Err(unlisted) => Err(Unsought::Unlisted(unlisted)),
     }
 }

@@ -22,7 +22,7 @@ pub struct Placing {
 }
 
 /// What is told of a place.
-fn placed(place: &ListedIn) -> Placed {
+fn place_told(place: &ListedIn) -> Placed {
     match place {
         ListedIn::First(_) => Placed::First,
         ListedIn::Last(_) => Placed::Last,
@@ -33,7 +33,7 @@ fn placed(place: &ListedIn) -> Placed {
 fn placing_of(alloc: Global, listing: &RuleListing, line: u32) -> Result<Placing, AllocError> {
     Ok(Placing {
         name: key_of(alloc, listing.rule.as_slice())?,
-        place: placed(&listing.place),
+        place: place_told(&listing.place),
         line,
     })
 }

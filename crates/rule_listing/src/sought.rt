@@ -168,6 +168,17 @@ fn sought_for(alloc: Global, outline: &Outline, text: &str) -> Result<Sought, Un
     }
 }
 
+/// The object that is told by its name.
+fn named(found: &Found<Referent>) -> Option<ObjNo> {
+    let Found::Read(referent) = found else {
+        return None;
+    };
+    match referent {
+        Referent::The(object) => Some(*object),
+        _ => None,
+    }
+}
+
 /// The object that words name.
 fn object_in(
     alloc: Global,
@@ -176,10 +187,8 @@ fn object_in(
 ) -> Result<Option<ObjNo>, AllocError>
     requires few { length (scope_of scope.now).repeats ≤ 255 }
 {
-    match object_of(alloc, scope, words)? {
-        Found::Read(Referent::The(object)) => Ok(Some(object)),
-        _ => Ok(None),
-    }
+    let found = object_of(alloc, scope, words)?;
+    Ok(named(&found))
 }
 
 /// The room that words name.

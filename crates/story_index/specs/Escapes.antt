@@ -1,5 +1,5 @@
 -- How the bytes of a source are written in a page, so that a reader of the page shows just them.
-use Rattle.std.specs.Prelude.{ℕ, Bool, true, false, ◌==◌, ◌||◌, not, List, [], ◌∷◌, codes, flat_map, if◌then◌else◌}
+use Rattle.std.specs.Prelude.{ℕ, Bool, ◌==◌, ◌≢◌, ◌||◌, List, [], ◌∷◌, ◌++◌, codes, flat_map, if◌then◌else◌}
 
 -- a byte that would open a tag, an entity or the end of an attribute's value is written as the entity that stands for it
 abbrev pub shown : ℕ → List ℕ
@@ -13,11 +13,11 @@ shown_text bytes = flat_map shown bytes
 abbrev pub is_of_markup : ℕ → Bool
 is_of_markup byte = (byte == 60) || (byte == 62) || (byte == 34)
 
--- what a reader of the page shows for the entities: `&amp;`, `&lt;`, `&gt;` and `&quot;`; each other byte is shown as it is
-unfoldable pub read_back : List ℕ → List ℕ
-read_back (38 ∷ 97 ∷ 109 ∷ 112 ∷ 59 ∷ bytes) = 38 ∷ read_back bytes
-read_back (38 ∷ 108 ∷ 116 ∷ 59 ∷ bytes) = 60 ∷ read_back bytes
-read_back (38 ∷ 103 ∷ 116 ∷ 59 ∷ bytes) = 62 ∷ read_back bytes
-read_back (38 ∷ 113 ∷ 117 ∷ 111 ∷ 116 ∷ 59 ∷ bytes) = 34 ∷ read_back bytes
-read_back (byte ∷ bytes) = byte ∷ read_back bytes
-read_back [] = []
+-- a reader of the page shows a text for these bytes of it: the entities for what they stand for, and each other byte as it is
+pub data IsReadAs : List ℕ → List ℕ → Type 0 where
+  nothing : IsReadAs [] []
+  ampersand : {bytes text : List ℕ} → IsReadAs bytes text → IsReadAs (codes "&amp;" ++ bytes) (38 ∷ text)
+  less : {bytes text : List ℕ} → IsReadAs bytes text → IsReadAs (codes "&lt;" ++ bytes) (60 ∷ text)
+  greater : {bytes text : List ℕ} → IsReadAs bytes text → IsReadAs (codes "&gt;" ++ bytes) (62 ∷ text)
+  quotation : {bytes text : List ℕ} → IsReadAs bytes text → IsReadAs (codes "&quot;" ++ bytes) (34 ∷ text)
+  plain : {byte : ℕ} {bytes text : List ℕ} → byte ≢ 38 → IsReadAs bytes text → IsReadAs (byte ∷ bytes) (byte ∷ text)

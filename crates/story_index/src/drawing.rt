@@ -3,7 +3,7 @@ use room_map::Spot;
 use world_meaning::Direction;
 
 /// The width and the height of a cell of the map, and of the box of a room in it.
-pub const CELL: Point = Point { x: 172, y: 96 };
+pub const CELL: Point = Point { x: 166, y: 94 };
 
 pub const BOX: Point = Point { x: 128, y: 48 };
 

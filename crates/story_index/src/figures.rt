@@ -48,7 +48,7 @@ fn add_figure(page: &mut Html, figure: Figure) -> Result<(), AllocError> {
 }
 
 /// A figure.
-fn figure(name: &'static str, count: usize, most: usize) -> Figure {
+fn figure_of(name: &'static str, count: usize, most: usize) -> Figure {
     Figure { name, count, most }
 }
 
@@ -56,20 +56,20 @@ fn figure(name: &'static str, count: usize, most: usize) -> Figure {
 fn declared(index: &TaleIndex<'_>) -> [Figure; 10] {
     let naming = index.naming;
     [
-        figure(
+        figure_of(
             "objects, the player and the directions among them",
             index.objects().len(),
             1_000,
         ),
-        figure("kinds", naming.kinds.len(), 100),
-        figure("either-or properties", naming.flags.len(), 100),
-        figure("number properties", naming.numbers.len(), 100),
-        figure("variables", naming.variables.len(), 100),
-        figure("rulebooks of your own", naming.rulebooks.len(), 100),
-        figure("kinds of value", naming.values.len(), 100),
-        figure("values of one kind of value", most_values(index), 100),
-        figure("scenes", naming.scenes.len(), 50),
-        figure("actions", index.story().action_count(), 200),
+        figure_of("kinds", naming.kinds.len(), 100),
+        figure_of("either-or properties", naming.flags.len(), 100),
+        figure_of("number properties", naming.numbers.len(), 100),
+        figure_of("variables", naming.variables.len(), 100),
+        figure_of("rulebooks of your own", naming.rulebooks.len(), 100),
+        figure_of("kinds of value", naming.values.len(), 100),
+        figure_of("values of one kind of value", most_values(index), 100),
+        figure_of("scenes", naming.scenes.len(), 50),
+        figure_of("actions", index.story().action_count(), 200),
     ]
 }
 
@@ -78,10 +78,10 @@ fn others(index: &TaleIndex<'_>, bytes: usize) -> [Figure; 4] {
     let own = index.story().rule_count().saturating_sub(STANDARD_RULES);
     let commands = index.outline().meant.resolved.grammar.lines.len();
     [
-        figure("bytes of the source", bytes, 262_144),
-        figure("rules of your own", own, 1_939),
-        figure("commands of your own", commands, 65_502),
-        figure("words of one object", most_words(index), 32),
+        figure_of("bytes of the source", bytes, 262_144),
+        figure_of("rules of your own", own, 1_939),
+        figure_of("commands of your own", commands, 65_502),
+        figure_of("words of one object", most_words(index), 32),
     ]
 }
 

@@ -10,12 +10,17 @@ use std::alloc::{AllocError, Global};
 /// How many of a list are named.
 const MOST: usize = 12;
 
-/// Adds how many there are, and what they are.
-fn open_entry(page: &mut Html, count: usize, what: &'static str) -> Result<(), AllocError> {
+/// Adds how many there are, and what they are: one, or any other number of them.
+fn open_entry(
+    page: &mut Html,
+    count: usize,
+    one: &'static str,
+    many: &'static str,
+) -> Result<(), AllocError> {
     page.markup("<li><b>")?;
     page.count(count)?;
     page.markup("</b> ")?;
-    page.markup(what)
+    page.markup(if count == 1 { one } else { many })
 }
 
 /// Adds what stands in front of the one of this place in a list; whether it is named at all.
@@ -85,7 +90,12 @@ fn nowhere(alloc: Global, index: &TaleIndex<'_>) -> Result<Vec<usize>, AllocErro
 /// Adds the rules that stand in no rulebook.
 fn add_unlisted(alloc: Global, page: &mut Html, index: &TaleIndex<'_>) -> Result<(), AllocError> {
     let rules = unlisted(alloc, index)?;
-    open_entry(page, rules.len(), "rules in no rulebook")?;
+    open_entry(
+        page,
+        rules.len(),
+        "rule in no rulebook",
+        "rules in no rulebook",
+    )?;
     for place in 0..rules.len() {
         if let Some(rule) = rules.get(place)
             && add_joint(page, place)?
@@ -103,7 +113,12 @@ fn add_alike(alloc: Global, page: &mut Html, index: &TaleIndex<'_>) -> Result<()
     for pair in pairs.as_slice() {
         things.push(pair.1)?;
     }
-    open_entry(page, things.len(), "things that no words part from another")?;
+    open_entry(
+        page,
+        things.len(),
+        "thing that no words part from another",
+        "things that no words part from another",
+    )?;
     add_objects(page, index, things.as_slice())
 }
 
@@ -114,6 +129,7 @@ pub fn add_glance(alloc: Global, page: &mut Html, index: &TaleIndex<'_>) -> Resu
     open_entry(
         page,
         lost.len(),
+        "room to which no way leads from the start",
         "rooms to which no way leads from the start",
     )?;
     add_objects(page, index, lost.as_slice())?;
@@ -121,11 +137,17 @@ pub fn add_glance(alloc: Global, page: &mut Html, index: &TaleIndex<'_>) -> Resu
     open_entry(
         page,
         one_way.len(),
+        "room with a way that doesn’t lead back",
         "rooms with a way that doesn’t lead back",
     )?;
     add_objects(page, index, one_way.as_slice())?;
     let nowhere = nowhere(alloc, index)?;
-    open_entry(page, nowhere.len(), "things that stand nowhere")?;
+    open_entry(
+        page,
+        nowhere.len(),
+        "thing that stands nowhere",
+        "things that stand nowhere",
+    )?;
     add_objects(page, index, nowhere.as_slice())?;
     add_unlisted(alloc, page, index)?;
     add_alike(alloc, page, index)?;

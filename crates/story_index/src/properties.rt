@@ -207,7 +207,7 @@ pub fn add_properties(
     };
     let told = Told { number, object };
     let mut is_first = true;
-    page.markup(" <span class=\"soft\">")?;
+    page.markup(" <span class=\"soft props\">")?;
     add_flags(page, index, told, &mut is_first)?;
     add_numbers(page, index, told, &mut is_first)?;
     add_values(page, index, told, &mut is_first)?;

@@ -8,8 +8,9 @@ pub const STYLE: &str = "
 html{scroll-padding-top:3.2rem;-webkit-text-size-adjust:100%}
 body{margin:0;background:var(--ground);color:var(--ink);font:16px/1.55 Charter,'Bitstream Charter','Iowan Old Style',Georgia,'Liberation Serif',serif}
 a{color:var(--link);text-decoration-thickness:1px;text-underline-offset:2px}
+main{padding-top:1.1rem!important}
 header,main{max-width:62rem;margin:0 auto;padding:0 1.1rem}
-header{padding-top:2.2rem}
+header{padding-top:2.2rem;padding-bottom:.6rem}
 h1{font-size:1.9rem;line-height:1.2;font-weight:600;margin:0 0 .3rem}
 h2{font-size:1.35rem;font-weight:600;margin:3rem 0 .8rem;padding-bottom:.3rem;border-bottom:1px solid var(--rule)}
 h3{font-size:1.05rem;font-weight:600;margin:1.4rem 0 .25rem}
@@ -18,13 +19,14 @@ nav{position:sticky;top:0;z-index:2;background:var(--ground);border-bottom:1px s
 nav div{max-width:62rem;margin:0 auto;padding:.55rem 1.1rem;font:14px/1.4 system-ui,sans-serif}
 nav a{margin-right:1rem;text-decoration:none}
 .line,.soft{color:var(--soft);font-size:.86em}
-.line{font-family:system-ui,sans-serif;white-space:nowrap;margin-left:.35rem;font-size:.78em}
+.line{font-family:system-ui,sans-serif;font-weight:400;white-space:nowrap;margin-left:.35rem;font-size:.78em}
 .line a{color:inherit}
 .mark{color:var(--mark);font-size:.86em}
 .text{color:var(--soft);font-style:italic;margin:.1rem 0 .35rem}
 .plain{list-style:none;padding:0}
 .plain>li,ol.rules>li{margin:.2rem 0}
 .tree>li{padding-left:calc(var(--deep,0)*1.35rem)}
+.props:not(:empty)::before{content:'· '}
 .glance{display:grid;grid-template-columns:repeat(auto-fit,minmax(15rem,1fr));gap:.7rem;padding:0;list-style:none}
 .glance li{background:var(--card);border:1px solid var(--rule);border-radius:8px;padding:.6rem .8rem}
 .glance b{font-weight:600}
@@ -42,6 +44,9 @@ nav a{margin-right:1rem;text-decoration:none}
 .map a:hover rect{stroke-width:2.4}
 .map .group{text-anchor:start;fill:var(--mark)}
 .key{display:inline-block;font-size:.86em;color:var(--soft)}
+.words{columns:15rem;column-gap:2rem}
+.words li{break-inside:avoid}
+kbd{font:13px ui-monospace,'DejaVu Sans Mono',monospace}
 ol.rules{padding-left:1.6rem}
 .why{display:block;color:var(--soft);font-size:.86em}
 details{margin:.25rem 0}

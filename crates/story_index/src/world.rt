@@ -203,17 +203,6 @@ pub fn is_nowhere(index: &TaleIndex<'_>, object: usize) -> bool {
     }
 }
 
-/// How many things stand nowhere.
-pub fn count_nowhere(index: &TaleIndex<'_>) -> usize {
-    let mut count = 0usize;
-    for object in 0..index.objects().len() {
-        if is_nowhere(index, object) {
-            count = count.saturating_add(1);
-        }
-    }
-    count
-}
-
 /// Adds the things that stand nowhere, with what they hold.
 fn add_nowhere(alloc: Global, page: &mut Html, index: &TaleIndex<'_>) -> Result<(), AllocError> {
     page.markup("<h3 id=\"nowhere\">What stands nowhere</h3>\n")?;
@@ -236,8 +225,13 @@ fn add_nowhere(alloc: Global, page: &mut Html, index: &TaleIndex<'_>) -> Result<
     add_things(page, index, left)
 }
 
-/// Adds a door: its name, its line, its properties and the ways on which it is.
-fn add_door(page: &mut Html, index: &TaleIndex<'_>, door: usize) -> Result<(), AllocError> {
+/// Adds a door: its name, its line, its properties, the ways on which it is, and what is part of it.
+fn add_door(
+    alloc: Global,
+    page: &mut Html,
+    index: &TaleIndex<'_>,
+    door: usize,
+) -> Result<(), AllocError> {
     page.open("li", "o", door)?;
     page.text(index.object_name(door))?;
     add_kind(page, index, door)?;
@@ -254,11 +248,12 @@ fn add_door(page: &mut Html, index: &TaleIndex<'_>, door: usize) -> Result<(), A
             page.link("o", room, index.object_name(room))?;
         }
     }
+    add_held(alloc, page, index, door)?;
     page.markup("</li>\n")
 }
 
 /// Adds the doors, if there are any.
-fn add_doors(page: &mut Html, index: &TaleIndex<'_>) -> Result<(), AllocError> {
+fn add_doors(alloc: Global, page: &mut Html, index: &TaleIndex<'_>) -> Result<(), AllocError> {
     let mut is_first = true;
     for object in 0..index.objects().len() {
         if index.is_of(object, KindNo::DOOR) {
@@ -266,7 +261,7 @@ fn add_doors(page: &mut Html, index: &TaleIndex<'_>) -> Result<(), AllocError> {
                 page.markup("<h3 id=\"doors\">Doors</h3>\n<ul class=\"plain\">\n")?;
             }
             is_first = false;
-            add_door(page, index, object)?;
+            add_door(alloc, page, index, object)?;
         }
     }
     if is_first {
@@ -281,6 +276,6 @@ pub fn add_world(alloc: Global, page: &mut Html, index: &TaleIndex<'_>) -> Resul
     for place in 0..index.rooms.len() {
         add_room(alloc, page, index, place)?;
     }
-    add_doors(page, index)?;
+    add_doors(alloc, page, index)?;
     add_nowhere(alloc, page, index)
 }
