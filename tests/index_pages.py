@@ -2,10 +2,11 @@
 """Reads the pages that `i7story index` writes. Of every sample, with its source and without: the page is read by a parser of HTML
 (html5lib where it is installed, and Python's own), and whole by a parser of XML, the map in it as SVG; it runs no script and fetches nothing;
 each link leads to one place of the page; no two rooms are drawn over one another; a line that isn't curved leads in its direction; each
-object, kind, action, rulebook and rule has one entry, at the line that declares it, its name as the source has it; the words of the
-source are those of its file; and the page is the same when it is written again, to a file too. Of two samples and of two sources that are hard what the page shows is told by hand. Of 900 rooms the page is written within a second.
+room that is drawn has its entry; the lines of the source are those of its file; and the page is the same when it is written again, to a file
+too. What the page shows of two samples, of a source with lost rooms and of one with texts that would be markup is told by hand. Of 900 rooms the
+page is written within a second. The picture docs/index-map.svg is the map of tests/index_pages/manor.i7.
 
-Use: tests/index_pages.py PROGRAM"""
+Use: tests/index_pages.py PROGRAM [--picture]     --picture: writes the picture anew"""
 import html.parser
 import os
 import pathlib
@@ -24,7 +25,8 @@ except ImportError:
     html5lib = None
 
 program = pathlib.Path(sys.argv[1]).resolve()
-stories = pathlib.Path(__file__).resolve().parents[1] / "stories"
+here = pathlib.Path(__file__).resolve().parent
+stories = here.parent / "stories"
 SVG = "{http://www.w3.org/2000/svg}"
 HTML = "{http://www.w3.org/1999/xhtml}"
 # elements that HTML has without an end
@@ -313,6 +315,36 @@ def hard():
     yield "a source that is refused", written(b"The Hall frobs.").decode(), "status 1: -:1: C5 NotUnderstood\n"
 
 
+# What the map of the manor can't be drawn without: ways of the compass there and back that hold together.
+MANOR = {
+    "Drive, north: Hall, by front door", "Hall, east: Library", "Hall, north: Kitchen", "Hall, west: Dining Room", "Library, east: Conservatory",
+    "Conservatory, north: Rose Garden", "Rose Garden, west: Scullery", "Kitchen, east: Scullery", "Kitchen, southwest: Dining Room",
+    "Landing, north: Bedroom", "Landing, east: Ancestral Long Gallery", "Bedroom, west: Laundry Chute"}
+MANOR_OTHERS = {
+    "Drive, west: Pond", "Cellar, east: Drive", "Hall, up: Landing", "Rose Garden, inside: Summer House", "Scullery, down: Cellar", "Chapel, down: Crypt"}
+PICTURE_STYLE = (
+    "<style>svg{background:#fff;color-scheme:light dark}rect{fill:#fff;stroke:#8a7f6c;stroke-width:1.2}.start rect{fill:#f3e3c9}.lost rect{fill:#f7d9d3}"
+    "path{fill:none;stroke:#8a7f6c;stroke-width:1.6}.other{stroke-dasharray:5 4}marker path{fill:#8a7f6c;stroke:none}"
+    "text{font:12px system-ui,sans-serif;fill:#23211d;text-anchor:middle}.say{font-size:10px;fill:#6d675d;paint-order:stroke;stroke:#fff;stroke-width:3px}"
+    ".door rect{fill:#b0552a;stroke:none}.group{text-anchor:start;fill:#9a3324}"
+    "@media (prefers-color-scheme:dark){svg{background:#211f1c}rect{fill:#2a2723;stroke:#9a8f7c}.start rect{fill:#4a3b22}.lost rect{fill:#552a24}path{stroke:#9a8f7c}"
+    "marker path{fill:#9a8f7c}text{fill:#e9e4d9}.say{fill:#a59d8e;stroke:#211f1c}.door rect{fill:#e08d5a}.group{fill:#ee9484}}</style>")
+
+
+def manor():
+    text = written((here / "index_pages" / "manor.i7").read_bytes()).decode()
+    yield from of_any("the manor", (here / "index_pages" / "manor.i7").read_bytes(), text)
+    ways = ways_drawn(tree.fromstring(text))
+    yield "the manor, ways that are straight", str(sorted(MANOR - {name for shape, name in ways if shape == "straight"})), "[]"
+    # a way back that can't be straight is drawn by itself
+    yield "the manor, its ways", str({name for _, name in ways} - {"Cellar, up: Scullery"} ^ MANOR ^ MANOR_OTHERS), "set()"
+    opening, rest = re.search(r"(?s)(<svg [^>]*>)(.*?</svg>)", text).groups()
+    picture = opening + PICTURE_STYLE + rest + "\n"
+    if "--picture" in sys.argv:
+        (here.parent / "docs" / "index-map.svg").write_text(picture)
+    yield "docs/index-map.svg, the map of the manor", (here.parent / "docs" / "index-map.svg").read_text(), picture
+
+
 def long():
     """A source of 900 rooms, thirty by thirty, each with a way up to none, and one of 900 without a way."""
     rooms = [(column, row) for row in range(30) for column in range(30)]
@@ -334,6 +366,7 @@ def answers():
     yield from samples()
     yield from told()
     yield from hard()
+    yield from manor()
     yield from long()
 
 

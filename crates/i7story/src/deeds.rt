@@ -103,7 +103,7 @@ fn list_rules<'a>(
     words: Words<'a>,
 ) -> Result<(), ProgramFault<'a>> {
     let bytes = bytes_of(rt, source)?;
-    match rules_about(rt.alloc(), bytes.as_slice(), words) {
+    match rules_about(rt.alloc(), bytes.as_slice(), &words) {
         Ok(told) => print(rt, told.as_bytes()),
         Err(error) => Err(unsought(rt.alloc(), source, error)),
     }

@@ -1,7 +1,7 @@
 //! The rulebooks of a source as lines.
 use crate::admitted::{Sought, rules_sought};
 use crate::rulebooks::{MOST_BOOKS, RuleTold, Rulebooks};
-use crate::sought::{Unsought, Words, sought_of};
+use crate::sought::{Unsought, Words, told_about};
 use source_outline::{Outline, Unlisted, outline_of};
 use std::alloc::{AllocError, Global};
 
@@ -78,7 +78,7 @@ fn books_told(alloc: Global, books: &Rulebooks<'_>, sought: &Sought) -> Result<S
 }
 
 /// What is told of the source of an outline.
-fn told_of(alloc: Global, outline: &Outline, sought: &Sought) -> Result<String, AllocError> {
+pub fn told_of(alloc: Global, outline: &Outline, sought: &Sought) -> Result<String, AllocError> {
     let books = Rulebooks::new(alloc, outline)?;
     books_told(alloc, &books, sought)
 }
@@ -92,17 +92,8 @@ pub fn rulebooks_told(alloc: Global, source: &[u8]) -> Result<String, Unlisted> 
     }
 }
 
-/// What is told of the source of an outline, of the rules that words seek.
-fn told_about(alloc: Global, outline: &Outline, words: Words<'_>) -> Result<String, Unsought> {
-    let sought = sought_of(alloc, outline, words)?;
-    match told_of(alloc, outline, &sought) {
-        Ok(told) => Ok(told),
-        Err(refused) => Err(Unsought::from(refused)),
-    }
-}
-
 /// The same of the rules alone that an action, its noun and a room admit.
-pub fn rules_about(alloc: Global, source: &[u8], words: Words<'_>) -> Result<String, Unsought> {
+pub fn rules_about(alloc: Global, source: &[u8], words: &Words<'_>) -> Result<String, Unsought> {
     match outline_of(alloc, source) {
         Ok(outline) => told_about(alloc, &outline, words),
         Err(unlisted) => Err(Unsought::Unlisted(unlisted)),

@@ -3,6 +3,7 @@ ghost use Rattle.std.specs.Prelude.{◌≤◌, length};
 ghost use Rattle.i7_conditions.specs.Scopes.{scope_of};
 
 use crate::admitted::{Sought, SoughtObject};
+use crate::listing::told_of;
 use i7_actions::{Action, action_named, standard_actions, tried_of};
 use i7_conditions::{Found, Scope, object_of};
 use i7_sentences::{Assertion, Sentence};
@@ -206,7 +207,7 @@ fn room_named(alloc: Global, outline: &Outline, text: &str) -> Result<ObjNo, Uns
 }
 
 /// What these words seek.
-pub fn sought_of(alloc: Global, outline: &Outline, words: Words<'_>) -> Result<Sought, Unsought> {
+fn sought_of(alloc: Global, outline: &Outline, words: &Words<'_>) -> Result<Sought, Unsought> {
     let mut sought = match words.action {
         None => Sought::ALL,
         Some(text) => sought_for(alloc, outline, text)?,
@@ -215,4 +216,20 @@ pub fn sought_of(alloc: Global, outline: &Outline, words: Words<'_>) -> Result<S
         sought.room = SoughtObject::The(room_named(alloc, outline, text)?);
     }
     Ok(sought)
+}
+
+/// The rulebooks of the source of an outline, of the rules that are sought.
+fn told_for(alloc: Global, outline: &Outline, sought: &Sought) -> Result<String, Unsought> {
+    match told_of(alloc, outline, sought) {
+        Ok(told) => Ok(told),
+        Err(refused) => Err(Unsought::from(refused)),
+    }
+}
+
+/// The rulebooks of the source of an outline, of the rules that words seek.
+pub fn told_about(alloc: Global, outline: &Outline, words: &Words<'_>) -> Result<String, Unsought> {
+    match sought_of(alloc, outline, words) {
+        Ok(sought) => told_for(alloc, outline, &sought),
+        Err(unsought) => Err(unsought),
+    }
 }

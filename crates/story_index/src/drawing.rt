@@ -122,6 +122,26 @@ fn port(spot: Spot, direction: Direction) -> Point {
 /// How far a curve goes on in the direction in which it leaves.
 const REACH: Point = Point { x: 46, y: 44 };
 
+/// How far a curve bends aside that would lead over a room.
+const BEND: Point = Point { x: 110, y: 62 };
+
+impl Line {
+    /// The same line, bent aside.
+    pub fn bent(self, direction: Direction) -> Line {
+        let step = step(direction);
+        let aside = Point {
+            x: step.y.saturating_mul(-1),
+            y: step.x,
+        };
+        let aside = aside.times(BEND.x, BEND.y);
+        Line {
+            leaving: self.leaving.plus(aside),
+            reaching: self.reaching.plus(aside),
+            ..self
+        }
+    }
+}
+
 /// The line of a way.
 pub fn line_of(from: Spot, direction: Direction, to: Spot) -> Line {
     let back = drawn_as(direction).opposite();

@@ -48,9 +48,26 @@ pub fn has_back(ways: &[IndexWay], way: &IndexWay) -> bool {
     ways.iter().any(|other| is_back(way, other))
 }
 
-/// Whether a way is drawn as a straight line.
-fn is_straight(way: &IndexWay, from: Spot, to: Spot, spots: &[Spot]) -> bool {
-    is_toward(drawn_as(way.way.direction), from, to) && is_clear(from, to, spots)
+/// How a way is drawn.
+#[derive(Clone, Copy, Debug, PartialEq, Eq)]
+enum Shape {
+    /// As a straight line: it leads in its direction, and passes by the other rooms.
+    Straight,
+    /// As a curve that bends aside: it leads in its direction, but over a room.
+    Bent,
+    /// As a curve: it leads in another direction.
+    Curve,
+}
+
+/// How a way is drawn.
+fn shape_of(way: &IndexWay, from: Spot, to: Spot, spots: &[Spot]) -> Shape {
+    if !is_toward(drawn_as(way.way.direction), from, to) {
+        Shape::Curve
+    } else if is_clear(from, to, spots) {
+        Shape::Straight
+    } else {
+        Shape::Bent
+    }
 }
 
 /// Adds the name of a way: whence, in which direction, and where it leads.
@@ -121,13 +138,29 @@ fn add_door(
     page.markup(" width=\"12\" height=\"12\"/></g></a>")
 }
 
-/// A way as it is drawn: from here to there, and whether it leads back, is drawn as a straight line, and once alone for both ways.
+/// A way as it is drawn: from here to there, and whether another leads back as it leads there.
 #[derive(Clone, Copy)]
 struct Drawn {
     from: Spot,
     to: Spot,
     has_back: bool,
-    is_straight: bool,
+    shape: Shape,
+}
+
+impl Drawn {
+    fn is_straight(self) -> bool {
+        self.shape == Shape::Straight
+    }
+
+    /// The line of a way in this direction.
+    fn line(self, direction: Direction) -> Line {
+        let line = line_of(self.from, direction, self.to);
+        if self.shape == Shape::Bent {
+            line.bent(direction)
+        } else {
+            line
+        }
+    }
 }
 
 /// Adds a way that is drawn.
@@ -138,9 +171,9 @@ fn add_drawn(
     drawn: Drawn,
 ) -> Result<(), AllocError> {
     let direction = way.way.direction;
-    let line = line_of(drawn.from, direction, drawn.to);
-    let is_single = !(drawn.has_back && drawn.is_straight);
-    page.markup(if drawn.is_straight {
+    let line = drawn.line(direction);
+    let is_single = !(drawn.has_back && drawn.is_straight());
+    page.markup(if drawn.is_straight() {
         "<g class=\"straight\">"
     } else {
         "<g class=\"curve\">"
@@ -149,18 +182,18 @@ fn add_drawn(
     add_path(
         page,
         &line,
-        drawn.is_straight,
+        drawn.is_straight(),
         is_single,
         is_other(direction),
     )?;
-    if is_other(direction) || !drawn.is_straight {
+    if is_other(direction) || !drawn.is_straight() {
         add_word(page, drawn.from, direction)?;
     }
     if is_other(direction) && !is_single {
         add_word(page, drawn.to, direction.opposite())?;
     }
     if let Some(door) = way.door {
-        let at = if drawn.is_straight {
+        let at = if drawn.is_straight() {
             line.middle()
         } else {
             line.middle_of_curve()
@@ -184,9 +217,9 @@ fn add_way(
         from: *from,
         to: *to,
         has_back: has_back(index.ways.as_slice(), way),
-        is_straight: is_straight(way, *from, *to, spots),
+        shape: shape_of(way, *from, *to, spots),
     };
-    if drawn.is_straight && drawn.has_back && way.way.to < way.way.from {
+    if drawn.is_straight() && drawn.has_back && way.way.to < way.way.from {
         return Ok(());
     }
     add_drawn(page, index, way, drawn)
