@@ -18,7 +18,7 @@ import kit
 SIDE_BY_SIDE = [
     "refused_memory.sh", "damaged_stories.py", "codes.py", "code_runs.py", "refused_calls.py", "story_files.py", "refused_sources.py",
     "memory_gone.py", "long_sessions.py", "bodies.py", "cases.py", "plays.py", "random_rules.py", "rows.sh", "files.py", "program.sh", "launcher.py", "streams.py", "golden.py", "pages.py", "editors.py",
-    "code_rows.py", "readings.py", "meanings.py", "names.py", "rule_trees.py", "standard_sentences.py", "rule_listings.py", "worlds.py", "asked_rules.py", "unit_tests.py"]
+    "code_rows.py", "readings.py", "meanings.py", "names.py", "rule_trees.py", "standard_sentences.py", "rule_listings.py", "index_pages.py", "worlds.py", "asked_rules.py", "unit_tests.py"]
 # These hold what they run to a time, and so run with nothing beside them.
 ALONE = ["hostile.sh", "long_rules.py"]
 

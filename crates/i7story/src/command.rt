@@ -2,6 +2,7 @@
 use crate::testing::Trying;
 use clap::error::ErrorKind;
 use clap::{Arg, ArgAction, ArgMatches, Command, Error};
+use rule_listing::Words;
 use source_player::ProgramFault;
 use std::alloc::{AllocError, Global};
 
@@ -21,12 +22,20 @@ pub enum Order<'a> {
         source: &'a str,
         story: &'a str,
     },
+    Index {
+        source: &'a str,
+        /// The file of the page, where it isn't standard output.
+        page: Option<&'a str>,
+        /// Whether the source stands in the page.
+        with_source: bool,
+    },
     Play {
         story: &'a str,
         playing: Playing<'a>,
     },
     Rules {
         source: &'a str,
+        words: Words<'a>,
     },
     Run {
         source: &'a str,
@@ -91,12 +100,54 @@ fn listing<'a>(alloc: Global) -> Result<Command<'a>, AllocError> {
         .about(
             "Lists the rulebooks of a source, each with its rules in the order in which they are asked and what puts them there",
         )
-        .after_help("Example: i7story rules stories/ferry.i7")
+        .after_help("Example: i7story rules stories/ferry.i7 --for \"taking the oar\"")
         .arg(file(
             alloc,
             "SOURCE",
             "The source, a text as stories/two-rooms.i7 is one; - is standard input",
-        ))
+        ))?
+        .arg(
+            Arg::new(alloc, "for")
+                .long("for")
+                .value_name("ACTION")
+                .action(ArgAction::Set)
+                .help(
+                    "Only rules that admit this action, as \"taking the ball\"; \"taking\" alone stands for any noun",
+                ),
+        )?
+        .arg(
+            Arg::new(alloc, "in")
+                .long("in")
+                .value_name("ROOM")
+                .action(ArgAction::Set)
+                .help("Only rules that admit this room, as \"the Hall\""),
+        )
+}
+
+/// The form that writes a story's index.
+fn indexing<'a>(alloc: Global) -> Result<Command<'a>, AllocError> {
+    Command::new(alloc, "index")
+        .about("Writes the index of a source: a page with its map, its world, kinds, actions, rules and words")
+        .after_help("Example: i7story index stories/museum.i7 -o museum.html")
+        .arg(file(
+            alloc,
+            "SOURCE",
+            "The source, a text as stories/two-rooms.i7 is one; - is standard input",
+        ))?
+        .arg(
+            Arg::new(alloc, "output")
+                .short('o')
+                .long("output")
+                .value_name("FILE")
+                .action(ArgAction::Set)
+                .help("Writes the page to FILE; without it the page goes to standard output"),
+        )?
+        .arg(
+            Arg::new(alloc, "source")
+                .long("source")
+                .action(ArgAction::SetTrue)
+                .help("Adds the source itself, its lines numbered, to which entries lead"),
+        )
 }
 
 /// The form that tries kept transcripts.
@@ -163,6 +214,7 @@ fn forms<'a>(alloc: Global) -> Result<Command<'a>, AllocError> {
         .after_help("Example: i7story run stories/two-rooms.i7, and then type: look")
         .subcommand_required(true);
     let program = with_form(program, compiling(alloc))?;
+    let program = with_form(program, indexing(alloc))?;
     let program = with_form(program, play_form(alloc))?;
     let program = with_form(program, listing(alloc))?;
     let program = with_form(program, run_form(alloc))?;
@@ -197,12 +249,21 @@ fn order_of<'a>(
             source: found.get_str("SOURCE")?,
             story: found.get_str("STORY")?,
         }),
+        "index" => Some(Order::Index {
+            source: found.get_str("SOURCE")?,
+            page: found.get_str("output"),
+            with_source: found.get_flag("source"),
+        }),
         "play" => Some(Order::Play {
             story: found.get_str("STORY")?,
             playing: playing_in(found),
         }),
         "rules" => Some(Order::Rules {
             source: found.get_str("SOURCE")?,
+            words: Words {
+                action: found.get_str("for"),
+                room: found.get_str("in"),
+            },
         }),
         "run" => Some(Order::Run {
             source: found.get_str("SOURCE")?,

@@ -5,12 +5,15 @@ ghost use Rattle.story_player.specs.Watches.{watched_failed};
 use crate::command::{Order, Playing, faulty};
 use crate::saving::{is_same_file, save};
 use crate::testing::{Verdict, try_files};
-use rule_listing::{Unlisted, rulebooks_told};
+use rule_listing::{Unsought, Words, rules_about};
+use source_outline::Unlisted;
 use source_player::{ProgramFault, SourceRunFault, run_source, run_story};
 use standard_rules::HostTable;
+use std::alloc::Global;
 use std::fs::{self, File};
 use std::io::{self, BufReader, ErrorKind, Read, Write};
 use story_file::compile;
+use story_index::index_page;
 use story_player::{RunFault, Watched};
 
 /// The path that is standard input where a file is read, and what it leads to.
@@ -64,17 +67,65 @@ fn compile_file<'a>(
     save(rt, story, compiled.as_slice())
 }
 
-/// Prints the rulebooks of a source file.
-fn list_rules<'a>(rt: &HostRuntime, source: &'a str) -> Result<(), ProgramFault<'a>> {
-    let bytes = bytes_of(rt, source)?;
-    let told = rulebooks_told(rt.alloc(), bytes.as_slice()).map_err(|unlisted| match unlisted {
+/// The program's fault where nothing is told of the source of this path.
+fn untold<'a>(source: &'a str, unlisted: Unlisted) -> ProgramFault<'a> {
+    match unlisted {
         Unlisted::Refused(fault) => ProgramFault::Source(source, fault),
         Unlisted::Unloaded(fault) => ProgramFault::Story(source, fault),
         Unlisted::Memory(_) => ProgramFault::Memory,
-    })?;
-    rt.stdout()
-        .write_all(told.as_bytes())
-        .map_err(|_| ProgramFault::Stream(RunFault::Write))
+    }
+}
+
+/// The program's fault where no rules are sought.
+fn unsought<'a>(alloc: Global, source: &'a str, unsought: Unsought) -> ProgramFault<'a> {
+    match unsought {
+        Unsought::Unlisted(unlisted) => untold(source, unlisted),
+        Unsought::NoAction => faulty(
+            alloc,
+            "i7story: --for names no action of the source, or a noun that isn't there\n",
+        ),
+        Unsought::NoRoom => faulty(alloc, "i7story: --in names no room of the source\n"),
+    }
+}
+
+/// Writes a text to standard output.
+fn print<'a>(rt: &HostRuntime, text: &[u8]) -> Result<(), ProgramFault<'a>> {
+    match rt.stdout().write_all(text) {
+        Ok(()) => Ok(()),
+        Err(_) => Err(ProgramFault::Stream(RunFault::Write)),
+    }
+}
+
+/// Prints the rulebooks of a source file, of the rules that the words seek.
+fn list_rules<'a>(
+    rt: &HostRuntime,
+    source: &'a str,
+    words: Words<'a>,
+) -> Result<(), ProgramFault<'a>> {
+    let bytes = bytes_of(rt, source)?;
+    match rules_about(rt.alloc(), bytes.as_slice(), &words) {
+        Ok(told) => print(rt, told.as_bytes()),
+        Err(error) => Err(unsought(rt.alloc(), source, error)),
+    }
+}
+
+/// Writes the page of a source file to standard output, or to a file.
+fn write_index<'a>(
+    rt: &HostRuntime,
+    source: &'a str,
+    page: Option<&'a str>,
+    with_source: bool,
+) -> Result<(), ProgramFault<'a>> {
+    let bytes = bytes_of(rt, source)?;
+    let told = match index_page(rt.alloc(), bytes.as_slice(), with_source) {
+        Ok(told) => told,
+        Err(unlisted) => return Err(untold(source, unlisted)),
+    };
+    match page {
+        None => print(rt, told.as_slice()),
+        Some(page) if is_source(rt, source, page) => Err(ProgramFault::CannotWrite(page)),
+        Some(page) => save(rt, page, told.as_slice()),
+    }
 }
 
 /// The commands that a reader gives, read by the block.
@@ -183,7 +234,12 @@ fn play_file<'a>(
 pub fn obey<'a>(rt: &HostRuntime, order: Order<'a>) -> Result<Verdict, ProgramFault<'a>> {
     match order {
         Order::Compile { source, story } => compile_file(rt, source, story)?,
-        Order::Rules { source } => list_rules(rt, source)?,
+        Order::Rules { source, words } => list_rules(rt, source, words)?,
+        Order::Index {
+            source,
+            page,
+            with_source,
+        } => write_index(rt, source, page, with_source)?,
         Order::Play { story, playing } => play_file(rt, story, Holds::Story, playing)?,
         Order::Run { source, playing } => play_file(rt, source, Holds::Source, playing)?,
         Order::Test {

@@ -3,28 +3,38 @@ use i7_conditions::key_of;
 use i7_sentences::{Assertion, ListedIn, RuleListing, Sentence};
 use std::alloc::{AllocError, Global};
 
+/// Where a sentence lists a rule in its rulebook.
+#[derive(Clone, Copy, Debug, PartialEq, Eq)]
+pub enum Placed {
+    First,
+    Last,
+    Nowhere,
+}
+
 /// What a sentence says of the place of a rule.
 #[derive(Drop)]
 pub struct Placing {
     /// The rule's name in small letters.
     name: Vec<u8>,
-    /// What is told of its place, if it stands anywhere.
-    told: Option<&'static str>,
+    pub place: Placed,
+    /// The line of the sentence.
+    pub line: u32,
 }
 
 /// What is told of a place.
-fn place_told(place: &ListedIn) -> Option<&'static str> {
+fn place_told(place: &ListedIn) -> Placed {
     match place {
-        ListedIn::First(_) => Some("listed first"),
-        ListedIn::Last(_) => Some("listed last"),
-        ListedIn::Nowhere => None,
+        ListedIn::First(_) => Placed::First,
+        ListedIn::Last(_) => Placed::Last,
+        ListedIn::Nowhere => Placed::Nowhere,
     }
 }
 
-fn placing_of(alloc: Global, listing: &RuleListing) -> Result<Placing, AllocError> {
+fn placing_of(alloc: Global, listing: &RuleListing, line: u32) -> Result<Placing, AllocError> {
     Ok(Placing {
         name: key_of(alloc, listing.rule.as_slice())?,
-        told: place_told(&listing.place),
+        place: place_told(&listing.place),
+        line,
     })
 }
 
@@ -33,18 +43,18 @@ pub fn placings_of(alloc: Global, sentences: &[Sentence]) -> Result<Vec<Placing>
     let mut placings = Vec::new(alloc);
     for sentence in sentences {
         if let Assertion::Listing(listing) = &sentence.said {
-            placings.push(placing_of(alloc, listing)?)?;
+            placings.push(placing_of(alloc, listing, sentence.line)?)?;
         }
     }
     Ok(placings)
 }
 
-/// How the latest sentence about the rule of this name lists it, if one does.
-pub fn listed_as(placings: &[Placing], name: &[u8]) -> Option<&'static str> {
+/// What the latest sentence about the rule of this name says, if there is one.
+pub fn latest_about<'a>(placings: &'a [Placing], name: &[u8]) -> Option<&'a Placing> {
     let mut latest = None;
     for placing in placings {
         if placing.name.as_slice() == name {
-            latest = placing.told;
+            latest = Some(placing);
         }
     }
     latest

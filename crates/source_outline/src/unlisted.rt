@@ -1,10 +1,10 @@
-//! Why a source's rulebooks aren't listed.
+//! Why nothing is told of a source.
 use std::alloc::AllocError;
 use story_format::LoadFault;
 use thiserror::Error;
 use world_meaning::Fault;
 
-/// Why a source's rulebooks aren't listed.
+/// Why nothing is told of a source.
 #[derive(Debug, Drop, Error)]
 pub enum Unlisted {
     /// The source is refused.
