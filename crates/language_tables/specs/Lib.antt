@@ -4,3 +4,4 @@ pub mod WrittenKeywords
 pub mod WrittenNames
 pub mod WrittenPhrases
 pub mod WrittenRules
+pub mod WrittenStandard

@@ -5,6 +5,7 @@
 mod forms;
 mod keywords;
 mod names;
+mod standard;
 
 pub use forms::{
     higher_forms_are_as_written, lower_forms_are_as_written, middle_forms_are_as_written,
@@ -17,4 +18,8 @@ pub use keywords::{
 pub use names::{
     action_names_are_as_written, book_names_are_as_written, headings_are_as_written,
     rule_names_are_as_written,
+};
+pub use standard::{
+    standard_rules_ask_as_written, standard_rules_make_so_as_written,
+    standard_rules_tell_as_written,
 };

@@ -5,7 +5,7 @@ use Rattle.std.proofs.lemmas.List.{length-drop, take_all}
 use Rattle.std.proofs.lemmas.Option.{same_Some}
 use Rattle.world_store.specs.StoryWorlds.{StoryWorld, let_go}
 use Rattle.world_store.proofs.LetGo.{index_behind}
-use Rattle.story_player.specs.KeptWorlds.{IsShortened, are_marks, world_at}
+use Rattle.story_player.specs.KeptWorlds.{IsShortened, are_marks, oldest_of, world_at}
 use Rattle.story_player.proofs.Keepings.{AreMarks, marks_so, so_marks}
 
 -- none of these places lies in front of the first
@@ -50,6 +50,16 @@ worlds_behind s first last (mark ∷ marks) are within from =
     let here : mark ≤ length s.past = omega (arith, within, are.0) in
     λ i. index_behind first mark s.past s.world from.0 here i ∷ worlds_behind s first mark marks are.1 here from.1 i
 
+-- the last place, told anew, is the first of what is left
+told_at : (first last n : ℕ) (marks : List ℕ) → unwrap_or (slice_get (told_from first marks) n) (last - first) ≡ unwrap_or (slice_get marks n) last - first
+told_at first last n [] = refl
+told_at first last zero (mark ∷ marks) = refl
+told_at first last (suc n) (mark ∷ marks) = told_at first last n marks
+
+none_in_front : (first last : ℕ) (marks : List ℕ) → first ≡ oldest_of marks last → oldest_of (told_from first marks) (last - first) ≡ 0
+none_in_front first last marks is =
+    ap (λ n. unwrap_or (slice_get (told_from first marks) (n - 1)) (last - first)) (told_length first marks) ∙ told_at first last (length marks - 1) marks ∙ omega (arith, is)
+
 module _ (s : StoryWorld) (first : ℕ) (marks : List ℕ) (are : are_marks (length s.past) marks ≡ true) (oldest : first ≡ unwrap_or (slice_get marks (length marks - 1)) (length s.past)) where
   from : (first ≤ length s.past) × AreFrom first marks
   from = from_oldest first (length s.past) marks (marks_so (length s.past) marks are) oldest
@@ -62,6 +72,7 @@ module _ (s : StoryWorld) (first : ℕ) (marks : List ℕ) (are : are_marks (len
     tables = refl;
     world = refl;
     kept = worlds_behind s first (length s.past) marks (marks_so (length s.past) marks are) (omega arith) from.1;
+    few = let none = subst (λ (last : ℕ). oldest_of (told_from first marks) last ≡ 0) (sym (length-drop first s.past)) (none_in_front first (length s.past) marks oldest) in omega (arith, none);
     places =
         so_marks (length (let_go first s).past) (told_from first marks)
         (subst (λ (last : ℕ). AreMarks last (told_from first marks)) (sym (length-drop first s.past)) (marks_behind first (length s.past) marks (marks_so (length s.past) marks are)));

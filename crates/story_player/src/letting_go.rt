@@ -43,7 +43,7 @@ fn shorten(world: &mut World, kept: &mut Ring<Mark>)
 }
 
 impl Session {
-    ghost use Rattle.story_player.specs.Sessions.{game_of, state_of, story_of};
+    ghost use Rattle.story_player.specs.Sessions.{HasShortLog, game_of, state_of, story_of};
 
     /// Shortens the log where it can be: so a session of any length holds at most twice the changes that eight turns make, and no line takes
     /// longer for it but the one behind which they are let go of.
@@ -51,6 +51,7 @@ impl Session {
         ensures state { state_of self.new ≡ state_of self.old }
         ensures game { game_of self.new ≡ game_of self.old }
         ensures story { story_of self.new ≡ story_of self.old }
+        ensures few { HasShortLog self.new }
     {
         if let Some(world) = &mut self.world {
             shorten(world, &mut self.kept);

@@ -60,7 +60,7 @@ pub(crate) fn ending_of(world: &World) -> Option<Ending>
 }
 
 impl Session {
-    ghost use Rattle.story_player.specs.Sessions.{game_of, state_of, story_of};
+    ghost use Rattle.story_player.specs.Sessions.{HasShortLog, game_of, state_of, story_of};
 
     /// Begins the story: the rules of when play begins are followed, and the player looks round.
     ///
@@ -140,6 +140,7 @@ impl Session {
             (record { text = text.new.said; kind = result }) }
         ensures game { game_of self.new ≡ game_of self.old }
         ensures story { story_of self.new ≡ story_of self.old }
+        ensures few { HasShortLog self.new }
     {
         text.clear();
         let kind = self.answer_parts(parts(typed), text);
@@ -155,6 +156,7 @@ impl Session {
         ensures answer { IsAnswered (game_of self.old) (parts_of line.now) (state_of self.old) (state_of self.new) result }
         ensures game { game_of self.new ≡ game_of self.old }
         ensures story { story_of self.new ≡ story_of self.old }
+        ensures few { HasShortLog self.new }
     {
         let mut text = LineText::new(self.alloc);
         let kind = self.typed(Typed::Whole(line), &mut text);

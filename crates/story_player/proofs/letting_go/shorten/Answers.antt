@@ -1,4 +1,4 @@
-use Rattle.std.proofs.Common.{◌≡◌, ◌∙◌, ◌-◌, ap, length}
+use Rattle.std.proofs.Common.{◌∙◌, ◌-◌, ap, length}
 use Rattle.std.specs.Prelude.{slice_get, unwrap_or}
 use Rattle.story_player.proofs.ShorterLogs.{first_within, shortened}
 use Rattle.story_player.proofs.letting_go.shorten.Goals as goal
