@@ -1,5 +1,5 @@
 -- Places side by side are apart.
-use Rattle.std.proofs.Common.{◌≡◌, ◌∙◌, ap, refl, ℕ, zero, suc, ◌+◌, ◌<◌, ◌++◌, [], ◌∷◌, List, length, true, false, arith}
+use Rattle.std.proofs.Common.{◌≡◌, ◌∙◌, ap, refl, ℕ, zero, suc, ◌+◌, ◌<◌, ◌++◌, [], ◌∷◌, length, true, false, arith}
 use Rattle.std.specs.List.{list_any}
 use Rattle.room_map.specs.Spots.{are_apart, is_same_spot, row_of}
 use Rattle.room_map.specs.declared.spot.Spot.{Spot}
