@@ -1,5 +1,5 @@
 -- How a form is printed: its words as they are spelled, what a letter stands for in capitals, one space between them.
-use Rattle.std.specs.Prelude.{ℕ, List, [], ◌∷◌, ◌++◌, map, Option, None, Some, codes, if◌then◌else◌}
+use Rattle.std.specs.Prelude.{ℕ, List, [], ◌∷◌, ◌++◌, codes, if◌then◌else◌}
 use Rattle.std.specs.List.{flat_map}
 use denote.Enum.Bare.{sameb}
 use Rattle.i7_sentences.specs.Keywords.{Row, all_keywords}
