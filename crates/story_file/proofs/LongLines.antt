@@ -7,7 +7,6 @@ use Rattle.play_meaning.specs.declared.operand.Counts.{Counts}
 use Rattle.code_table.specs.Emitted.{AllShort, IsShort, IsToldLong}
 use Rattle.code_table.specs.Origins.{Fits, Origin}
 use Rattle.code_table.proofs.Stopped.{front_of, nothing_left}
-use Rattle.story_code.specs.SoundlyEmitted.{among}
 use Rattle.story_file.specs.LongOnes.{AreShort, IsFound, IsLineTold, IsLowest, Lined, lower, lowest}
 
 -- ---- lists
@@ -100,18 +99,21 @@ module _ (z : Counts) (string : List ℕ → ℕ) where
 
 -- ---- by the counts of the tables without codes
 
-module _ (z y : Counts) (string : List ℕ → ℕ) (are : (own codes : ℕ) → among z own codes ≡ among y own codes) where
+abbrev with_counts : Counts → ℕ → ℕ → Counts
+with_counts z own codes = record z { own = own; codes = codes }
+
+module _ (z y : Counts) (string : List ℕ → ℕ) (are : (own codes : ℕ) → with_counts z own codes ≡ with_counts y own codes) where
   short_so : (origins : List Origin) → AllShort z string origins → AllShort y string origins
   short_so [] all = tt
   short_so (origin ∷ origins) all =
       let first : IsShort y string origin = record { fits = λ own codes. subst (λ (x : Counts). Fits x string origin) (are own codes) (all.0.fits own codes); said = all.0.said } in
       (first, short_so origins all.1)
 
-told_so : (z y : Counts) (string : List ℕ → ℕ) → ((own codes : ℕ) → among z own codes ≡ among y own codes) → (origins : List Origin) (long : Bool) → IsToldLong z string origins long → IsToldLong y string origins long
+told_so : (z y : Counts) (string : List ℕ → ℕ) → ((own codes : ℕ) → with_counts z own codes ≡ with_counts y own codes) → (origins : List Origin) (long : Bool) → IsToldLong z string origins long → IsToldLong y string origins long
 told_so z y string are origins true long = λ short. long (short_so y z string (λ own codes. sym (are own codes)) origins short)
 told_so z y string are origins false short = short_so z y string are origins short
 
-pub all_told_so : (z y : Counts) (string : List ℕ → ℕ) → ((own codes : ℕ) → among z own codes ≡ among y own codes) → (all : List (List Origin)) (longs : List Bool) → AllZip (IsToldLong z string) all longs
+pub all_told_so : (z y : Counts) (string : List ℕ → ℕ) → ((own codes : ℕ) → with_counts z own codes ≡ with_counts y own codes) → (all : List (List Origin)) (longs : List Bool) → AllZip (IsToldLong z string) all longs
     → AllZip (IsToldLong y string) all longs
 all_told_so z y string are [] [] told = tt
 all_told_so z y string are [] (long ∷ longs) told = absurd told

@@ -1,7 +1,10 @@
 -- The objects of a tale have the names by which rules and texts number them.
 use Rattle.std.proofs.Common.{◌≡◌, ◌∙◌, refl, sym, ap, subst, ℕ, ◌+◌, Bool, true, false, List, [], ◌∷◌, ◌++◌, map, append_assoc, append-nil, if◌then◌else◌}
-use Rattle.std.specs.Prelude.{Ok, fold}
+use Rattle.std.specs.Prelude.{Ok, codes, fold}
 use Rattle.std.proofs.lemmas.List.{map-append}
+use Rattle.world_meaning.specs.Directions.{all_directions, direction_name}
+use Rattle.world_meaning.specs.declared.direction.Direction.{Direction}
+use Rattle.world_meaning.specs.declared.direction.Direction.TheVariants.{North, Northeast, Northwest, South, Southeast, Southwest, East, West, Up, Down, Inside, Outside}
 use Rattle.world_meaning.specs.declared.tale.Object.{Object}
 use Rattle.world_meaning.specs.declared.tale.Tale.{Tale}
 use Rattle.i7_claims.specs.Claims.{claims_of}
@@ -9,7 +12,7 @@ use Rattle.i7_claims.specs.Statements.{NameAt, Named, built_in_keys, has_key, ke
 use Rattle.i7_kinds.specs.Actions.{actions_said}
 use Rattle.i7_kinds.specs.KindClaims.{declared_by}
 use Rattle.i7_kinds.specs.Knowns.{knowns_of}
-use Rattle.i7_kinds.specs.Tales.{Made, author_entry, entries_of, made_of, object_as, objects_of, or_refused, refusal_of, scope_of, tale_said}
+use Rattle.i7_kinds.specs.Tales.{Made, author_entry, direction_entry, entries_of, made_of, object_as, objects_of, or_refused, refusal_of, scope_of, tale_said}
 use Rattle.i7_kinds.specs.declared.entries.Entry.{Entry}
 use Rattle.i7_sentences.specs.declared.sentence.Sentence.{Sentence}
 use Rattle.story_file.proofs.Acted.{acted}
@@ -35,9 +38,31 @@ authors_keyed : (mentions : List NameAt) → map entry_key (map author_entry men
 authors_keyed [] = refl
 authors_keyed (at ∷ mentions) = ap (λ keys. key_of at.name.text ∷ keys) (authors_keyed mentions)
 
+-- a direction's name is its key
+direction_keyed : (d : Direction) → key_of (direction_name d) ≡ direction_name d
+unfolding direction_name
+direction_keyed North = refl
+direction_keyed Northeast = refl
+direction_keyed Northwest = refl
+direction_keyed South = refl
+direction_keyed Southeast = refl
+direction_keyed Southwest = refl
+direction_keyed East = refl
+direction_keyed West = refl
+direction_keyed Up = refl
+direction_keyed Down = refl
+direction_keyed Inside = refl
+direction_keyed Outside = refl
+
+directions_keyed : (ds : List Direction) → map entry_key (map direction_entry ds) ≡ map direction_name ds
+directions_keyed [] = refl
+directions_keyed (d ∷ ds) = λ i. direction_keyed d i ∷ directions_keyed ds i
+
 entries_keyed : (mentions : List NameAt) → map entry_key (entries_of mentions) ≡ built_in_keys ++ map mention_key mentions
 unfolding entries_of
-entries_keyed mentions = ap (λ keys. built_in_keys ++ keys) (authors_keyed mentions)
+entries_keyed mentions =
+    ap (λ keys. codes "yourself" ∷ keys) (map-append entry_key (map direction_entry all_directions) (map author_entry mentions)
+    ∙ ap (λ keys. keys ++ map entry_key (map author_entry mentions)) (directions_keyed all_directions) ∙ ap (λ keys. map direction_name all_directions ++ keys) (authors_keyed mentions))
 
 -- ---- the keys are those of the mentions, behind the built-in ones
 

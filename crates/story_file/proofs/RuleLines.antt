@@ -40,15 +40,17 @@ asserted_at : (line : ℕ) (said : Assertion) → lines_at (rules_asserted line 
 asserted_at line (asserts.Rule rule) = refl
 asserted_at line _ = refl
 
+-- with those of a sentence in front, by whether it says one
+one_more : (sentence : Sentence) (sentences : List Sentence) (b : Bool) → lines_at (rules_in sentences) ≡ rule_lines sentences → (if b then sentence.line ∷ [] else []) ++ lines_at (rules_in sentences)
+    ≡ map (λ (one : Sentence). one.line) (if b then sentence ∷ filter (λ (one : Sentence). is_rule one.said) sentences else filter (λ (one : Sentence). is_rule one.said) sentences)
+one_more sentence sentences true rest = ap (λ l. sentence.line ∷ l) rest
+one_more sentence sentences false rest = rest
+
 said_at : (sentences : List Sentence) → lines_at (rules_in sentences) ≡ rule_lines sentences
 said_at [] = refl
 said_at (sentence ∷ sentences) =
-    map-append (λ (rule : RuleAt). rule.line) (rules_said sentence) (rules_in sentences) ∙ ap (λ l. l ++ lines_at (rules_in sentences)) (asserted_at sentence.line sentence.said) ∙ by (is_rule sentence.said)
-  where
-    by : (b : Bool) → (if b then sentence.line ∷ [] else []) ++ lines_at (rules_in sentences)
-        ≡ map (λ (one : Sentence). one.line) (if b then sentence ∷ filter (λ (one : Sentence). is_rule one.said) sentences else filter (λ (one : Sentence). is_rule one.said) sentences)
-    by true = ap (λ l. sentence.line ∷ l) (said_at sentences)
-    by false = said_at sentences
+    map-append (λ (rule : RuleAt). rule.line) (rules_said sentence) (rules_in sentences) ∙ ap (λ l. l ++ lines_at (rules_in sentences)) (asserted_at sentence.line sentence.said)
+    ∙ one_more sentence sentences (is_rule sentence.said) (said_at sentences)
 
 pub rules_at : (sentences : List Sentence) (tale : Tale) (said : Contents) (meant : AreMeant sentences tale said) → map (λ rule. rule.line) meant.resolved.rules.items ≡ rule_lines sentences
 rules_at sentences tale said meant =
