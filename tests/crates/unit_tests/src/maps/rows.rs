@@ -123,7 +123,12 @@ fn a_room_doesnt_stand_on_the_line_between_two_others(rt: HostRuntime) -> Result
 #[test]
 fn rooms_that_no_way_reaches_stand_below(rt: HostRuntime) -> Result<(), Fail> {
     let alloc = rt.alloc();
-    let ways = [way(0, North, 1), way(2, East, 3), way(3, West, 2), way(4, South, 0)];
+    let ways = [
+        way(0, North, 1),
+        way(2, East, 3),
+        way(3, West, 2),
+        way(4, South, 0),
+    ];
     let places = [(0, 1), (0, 0), (0, 3), (1, 3), (2, 3)];
     assert!(rt; are_at(alloc, 5, &ways, &places)?);
     let reached = reached_from(alloc, 5, 0, &ways)?;
