@@ -2,6 +2,7 @@
 use Rattle.std.proofs.Common.{◌≡◌, ◌∙◌, ap, sym, subst, refl, ℕ, ◌-◌, ◌<◌, ◌≤◌, nat_lt, Bool, true, false, List, [], ◌∷◌, ◌++◌, length, drop, take, get_or, append_assoc, append-nil, Option, Some, None, ◌⊎◌, inl, inr, arith, if◌then◌else◌}
 use Rattle.std.specs.Prelude.{map}
 use Rattle.std.specs.List.{AllByRecursion, AllZip, zip}
+use Rattle.std.specs.Option.{unwrap_or}
 use Rattle.std.proofs.lemmas.Bool.{ltb-false, ltb-true}
 use Rattle.play_meaning.specs.declared.operand.Counts.{Counts}
 use Rattle.code_table.specs.Emitted.{AllShort, IsShort, IsToldLong}
@@ -123,11 +124,8 @@ all_told_so z y string are (origins ∷ all) (long ∷ longs) told = (told_so z 
 -- ---- as a loop tells it of one thing after the other
 
 module _ {X : Type 0} (R : X → Bool → Type 0) (all : List X) where
-  pub IsOnWay : List X → List Bool → Type 0
+  abbrev pub IsOnWay : List X → List Bool → Type 0
   IsOnWay rest longs = (behind : List Bool) → AllZip R rest behind → AllZip R all (longs ++ behind)
-
-  pub begins : IsOnWay all []
-  begins behind told = told
 
   grown : (x : X) (rest : List X) (longs : List Bool) (long : Bool) → R x long → IsOnWay (x ∷ rest) longs → IsOnWay rest (longs ++ long ∷ [])
   grown x rest longs long told way behind others = subst (AllZip R all) (sym (append_assoc longs (long ∷ []) behind)) (way (long ∷ behind) (told, others))
@@ -145,18 +143,14 @@ module _ {X : Type 0} (R : X → Bool → Type 0) (all : List X) where
 
 -- ---- as it is told
 
-abbrev pub line_or_one : Option ℕ → ℕ
-line_or_one None = 1
-line_or_one (Some line) = line
-
-pub found_told : (z : Counts) (string : List ℕ → ℕ) (all : List Lined) (found : Option ℕ) (line : ℕ) → IsFound z string all found → line ≡ line_or_one found → IsLineTold z string all line
+pub found_told : (z : Counts) (string : List ℕ → ℕ) (all : List Lined) (found : Option ℕ) (line : ℕ) → IsFound z string all found → line ≡ unwrap_or found 1 → IsLineTold z string all line
 found_told z string all None line short is = inr (short, is)
 found_told z string all (Some low) line lowest is = inl (subst (IsLowest z string all) (sym is) lowest)
 
 -- of descriptions, rules and scenes, each by its line
 pub line_found : (z : Counts) (string : List ℕ → ℕ) (text_at rule_at scene_at : List ℕ) (texts rules scenes : List (List Origin)) (long_texts long_rules long_scenes : List Bool) (line : ℕ)
     → AllZip (IsToldLong z string) texts long_texts → AllZip (IsToldLong z string) rules long_rules → AllZip (IsToldLong z string) scenes long_scenes
-    → line ≡ line_or_one (lowest (lowest (lowest None text_at long_texts) rule_at long_rules) scene_at long_scenes)
+    → line ≡ unwrap_or (lowest (lowest (lowest None text_at long_texts) rule_at long_rules) scene_at long_scenes) 1
     → IsLineTold z string (zip text_at texts ++ (zip rule_at rules ++ zip scene_at scenes)) line
 line_found z string text_at rule_at scene_at texts rules scenes long_texts long_rules long_scenes line texts_told rules_told scenes_told is =
     let first = found_behind z string [] None text_at texts long_texts texts_told tt in
@@ -168,3 +162,17 @@ line_found z string text_at rule_at scene_at texts rules scenes long_texts long_
 pub map_twice : {X Y Z : Type 0} (f : Y → Z) (g : X → Y) (xs : List X) → map (λ x. f (g x)) xs ≡ map f (map g xs)
 map_twice f g [] = refl
 map_twice f g (x ∷ xs) = ap (λ l. f (g x) ∷ l) (map_twice f g xs)
+
+-- of things that mean them, by the tables without codes and as they are lent
+pub moved : {X Y : Type 0} (f : Y → List Origin) (g : X → Y) (z y : Counts) (string other : List ℕ → ℕ) → string ≡ other → ((own codes : ℕ) → with_counts z own codes ≡ with_counts y own codes)
+    → (xs ys : List X) → xs ≡ ys → (longs : List Bool) → AllZip (IsToldLong z string) (map (λ x. f (g x)) xs) longs → AllZip (IsToldLong y other) (map f (map g ys)) longs
+moved f g z y string other same are xs ys alike longs told =
+    let named = subst (λ (s : List ℕ → ℕ). AllZip (IsToldLong z s) (map (λ x. f (g x)) xs) longs) same told in
+    let counted = all_told_so z y other are (map (λ x. f (g x)) xs) longs named in
+    subst (λ l. AllZip (IsToldLong y other) l longs) (map_twice f g xs ∙ ap (λ l. map f (map g l)) alike) counted
+
+-- where the longs stop no line is looked at
+pub lowest_over : (found : Option ℕ) (lines : List ℕ) (longs : List Bool) → length longs < 1 → found ≡ lowest found lines longs
+lowest_over found [] longs none = refl
+lowest_over found (line ∷ lines) [] none = refl
+lowest_over found (line ∷ lines) (long ∷ longs) none = absurd (omega (arith, none))

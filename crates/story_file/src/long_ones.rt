@@ -93,7 +93,10 @@ fn lowest(found: Option<u32>, lines: &[u32], longs: &[bool]) -> Option<u32>
     let mut found = found;
     let mut lines = lines;
     let mut longs = longs;
-    while let ([line, other_lines @ ..], [is_long, other_longs @ ..]) = (lines, longs) {
+    while let [line, other_lines @ ..] = lines {
+        let [is_long, other_longs @ ..] = longs else {
+            return found;
+        };
         if *is_long {
             found = Some(lower(found, *line));
         }

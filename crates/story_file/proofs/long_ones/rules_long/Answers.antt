@@ -3,11 +3,8 @@ use Rattle.object_words.specs.Mentions.{number_in}
 use Rattle.play_meaning.specs.Patterns.{rule_meant}
 use Rattle.code_table.specs.Origins.{origins_of_rule}
 use Rattle.code_table.specs.Emitted.{IsToldLong}
-use Rattle.story_file.proofs.LongLines.{begins, ends, grows}
+use Rattle.story_file.proofs.LongLines.{ends, grows}
 use Rattle.story_file.proofs.long_ones.rules_long.Goals as goal
-
-pub loop-rest-entry : goal.loop-rest-entry
-loop-rest-entry c = let string = number_in c.args.strings.now in begins (IsToldLong c.args.counts.now string) (map (λ rule. origins_of_rule (rule_meant rule)) c.args.rules.now)
 
 pub loop-rest-preserved : goal.loop-rest-preserved
 loop-rest-preserved c = let string = number_in c.args.strings.now in 

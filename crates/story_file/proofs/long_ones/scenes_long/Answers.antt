@@ -2,11 +2,8 @@ use Rattle.std.specs.Prelude.{map}
 use Rattle.play_meaning.specs.ScenesMeant.{scene_meant}
 use Rattle.code_table.specs.Origins.{origins_of_scene}
 use Rattle.code_table.specs.Emitted.{IsToldLong}
-use Rattle.story_file.proofs.LongLines.{begins, ends, grows}
+use Rattle.story_file.proofs.LongLines.{ends, grows}
 use Rattle.story_file.proofs.long_ones.scenes_long.Goals as goal
-
-pub loop-rest-entry : goal.loop-rest-entry
-loop-rest-entry c = λ string. begins (IsToldLong c.args.counts.now string) (map (λ scene. origins_of_scene (scene_meant scene)) c.args.scenes.now)
 
 pub loop-rest-preserved : goal.loop-rest-preserved
 loop-rest-preserved c = λ string. 

@@ -3,11 +3,8 @@ use Rattle.object_words.specs.Mentions.{number_in}
 use Rattle.play_meaning.specs.Meant.{text_meant}
 use Rattle.story_file.specs.LongOnes.{one_text}
 use Rattle.code_table.specs.Emitted.{IsToldLong}
-use Rattle.story_file.proofs.LongLines.{begins, ends, grows}
+use Rattle.story_file.proofs.LongLines.{ends, grows}
 use Rattle.story_file.proofs.long_ones.texts_long.Goals as goal
-
-pub loop-rest-entry : goal.loop-rest-entry
-loop-rest-entry c = let string = number_in c.args.strings.now in begins (IsToldLong c.args.counts.now string) (map (λ text. one_text (text_meant text)) c.args.texts.now)
 
 pub loop-rest-preserved : goal.loop-rest-preserved
 loop-rest-preserved c = let string = number_in c.args.strings.now in 
