@@ -6,7 +6,6 @@ use Rattle.std.specs.Prelude.{map}
 use Rattle.std.proofs.lemmas.List.{length-map, take_all}
 use Rattle.play_meaning.specs.Meant.{body_meant, condition_meant, text_meant}
 use Rattle.play_meaning.specs.Patterns.{rule_meant}
-use Rattle.play_meaning.specs.Rules.{Rule}
 use Rattle.play_meaning.specs.TranslatedScripts.{in_list}
 use Rattle.play_meaning.specs.Trees.{Text}
 use Rattle.play_meaning.specs.declared.operand.Counts.{Counts}

@@ -4,9 +4,8 @@ use Rattle.std.specs.List.{AllByRecursion, flat_map}
 use Rattle.play_meaning.specs.Codes.{Codes, RunsTo, description_said, test_of}
 use Rattle.play_meaning.specs.Doing.{Inner, do_body}
 use Rattle.play_meaning.specs.Progress.{Progress}
-use Rattle.play_meaning.specs.Rules.{Rule}
 use Rattle.play_meaning.specs.Saying.{Telling, said_in}
-use Rattle.play_meaning.specs.Scripts.{Scene, scope_of}
+use Rattle.play_meaning.specs.Scripts.{scope_of}
 use Rattle.play_meaning.specs.Translation.{strings_of_body, strings_of_text}
 use Rattle.play_meaning.specs.Trees.{Body, Condition, Text}
 use Rattle.play_meaning.specs.Truth.{truth_in}
@@ -20,7 +19,7 @@ use Rattle.story_code.specs.Runs.{AreSoundTogether, code_told}
 use Rattle.story_code.specs.Soundness.{Judged}
 use Rattle.story_code.specs.Spelling.{spelling}
 use Rattle.code_table.specs.Emitted.{AllFit, CanBeSaid, HaveNoTable, codes_of_origins}
-use Rattle.code_table.specs.Origins.{Asks, Describes, Does, Origin, origins_of, strings_of_origin, use_for}
+use Rattle.code_table.specs.Origins.{Asks, Describes, Does, Origin, strings_of_origin, use_for}
 use Rattle.code_table.specs.Strings.{strings_of}
 use Rattle.code_table.specs.Tables.{IsTableOf}
 use Rattle.code_table.specs.declared.fault.TableFault.{TableFault}

@@ -81,11 +81,7 @@ pub fn rule_is_long(
 }
 
 /// Whether this is so of the condition on which a scene begins, or of that on which it ends.
-pub fn scene_is_long(
-    alloc: Global,
-    counts: &Counts,
-    scene: &MeantScene,
-) -> Result<bool, AllocError>
+pub fn scene_is_long(alloc: Global, counts: &Counts, scene: &MeantScene) -> Result<bool, AllocError>
     ensures { (string : List ℕ → ℕ) → IfOk result (IsToldLong counts.now string (origins_of_scene (scene_meant scene.now))) }
 {
     if asked_is_long(alloc, counts, &scene.begins)? {

@@ -127,7 +127,9 @@ fn listing<'a>(alloc: Global) -> Result<Command<'a>, AllocError> {
 /// The form that writes a story's index.
 fn indexing<'a>(alloc: Global) -> Result<Command<'a>, AllocError> {
     Command::new(alloc, "index")
-        .about("Writes the index of a source: a page with its map, its world, kinds, actions, rules and words")
+        .about(
+            "Writes the index of a source: a page with its map, its world, kinds, actions, rules and words",
+        )
         .after_help("Example: i7story index stories/museum.i7 -o museum.html")
         .arg(file(
             alloc,

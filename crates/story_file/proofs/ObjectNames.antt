@@ -1,5 +1,5 @@
 -- The objects of a tale have the names by which rules and texts number them.
-use Rattle.std.proofs.Common.{◌≡◌, ◌∙◌, refl, sym, ap, subst, ℕ, ◌+◌, Bool, true, false, List, [], ◌∷◌, ◌++◌, map, append_assoc, append-nil, if◌then◌else◌}
+use Rattle.std.proofs.Common.{◌≡◌, ◌∙◌, refl, sym, ap, ℕ, ◌+◌, Bool, true, false, List, [], ◌∷◌, ◌++◌, map, append_assoc, append-nil, if◌then◌else◌}
 use Rattle.std.specs.Prelude.{Ok, codes, fold}
 use Rattle.std.proofs.lemmas.List.{map-append}
 use Rattle.world_meaning.specs.Directions.{all_directions, direction_name}

@@ -1,9 +1,8 @@
 -- The text that a story has for an object is what its description says.
-use Rattle.std.proofs.Common.{◌≡◌, ◌∙◌, ap, refl, sym, subst, ℕ, zero, suc, List, [], ◌∷◌, ◌++◌, drop, Option, Some, None, if◌then◌else◌}
+use Rattle.std.proofs.Common.{◌≡◌, ◌∙◌, ap, refl, subst, ℕ, zero, suc, List, [], ◌∷◌, ◌++◌, drop, Option, Some, None, if◌then◌else◌}
 use Rattle.std.specs.Prelude.{slice_get, is_some}
 use Rattle.std.specs.List.{AllZip}
 use Rattle.world_meaning.specs.declared.tale.Object.{Object}
-use Rattle.world_meaning.specs.declared.tale.Tale.{Tale}
 use Rattle.play_meaning.specs.TranslatedScripts.{in_list}
 use Rattle.play_meaning.specs.Trees.{Text}
 use Rattle.i7_conditions.specs.Scopes.{Scope}

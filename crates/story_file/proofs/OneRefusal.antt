@@ -1,6 +1,6 @@
 -- A source is refused in one way: each step that refuses it does so in one, and no other step does.
-use Rattle.std.proofs.Common.{◌≡◌, ◌≢◌, ◌∙◌, ap, sym, subst, ℕ, Bool, List, Err, Ok}
-use Rattle.std.specs.Prelude.{Option, Some, None, Result}
+use Rattle.std.proofs.Common.{◌≡◌, ◌≢◌, ◌∙◌, ap, sym, subst, ℕ, Bool, List, Err}
+use Rattle.std.specs.Prelude.{Some, Result}
 use Rattle.world_meaning.specs.declared.fault.Fault.{Fault}
 use Rattle.world_meaning.specs.declared.fault.FaultCode.TheVariants.{Memory, TooMany}
 use Rattle.world_meaning.specs.declared.tale.Tale.{Tale}
@@ -8,16 +8,16 @@ use Rattle.i7_lexer.specs.Readings.{HasTokens}
 use Rattle.i7_lexer.specs.Refusals.{IsRefused as IsUnspelled}
 use Rattle.i7_lexer.specs.declared.token.Token.{Token}
 use Rattle.i7_lexer.proofs.LawLemmas.{refused-same, spelled-refused, tokens-same}
-use Rattle.i7_kinds.specs.Tales.{long_said, tale_said}
+use Rattle.i7_kinds.specs.Tales.{long_said}
 use Rattle.i7_resolution.specs.Resolutions.{IsResolution}
 use Rattle.i7_resolution.specs.ResolutionsMeant.{resolution_meant}
 use Rattle.i7_resolution.specs.declared.resolution.Resolution.TheVariants.{Refused}
 use Rattle.i7_rules.specs.Knowns.{Known}
 use Rattle.i7_sentences.proofs.Verdicts.{refusals_same, spelled_refused}
-use Rattle.i7_sentences.specs.Sources.{HasSentences, IsRefused as IsUnread}
+use Rattle.i7_sentences.specs.Sources.{IsRefused as IsUnread}
 use Rattle.i7_sentences.specs.declared.sentence.Sentence.{Sentence}
 use Rattle.story_format.specs.Contents.{Contents}
-use Rattle.story_file.specs.Compilations.{IsRefused, IsTold, IsUnheldSource, IsUnmeant, IsUnreadSource, Says, memory, unheld, unmeant as unsaid, unread, unspelled}
+use Rattle.story_file.specs.Compilations.{IsRefused, IsUnheldSource, IsUnmeant, IsUnreadSource, Says, memory, unheld, unmeant as unsaid, unread, unspelled}
 use Rattle.story_file.specs.LongOnes.{IsToldAt}
 use Rattle.story_file.specs.Meanings.{AreRefused, AreTooLong, AreUnresolved, known_said, too_long, unmeant, unresolved, with_long}
 use Rattle.story_file.proofs.LongLines.{line_once}

@@ -108,11 +108,7 @@ fn lowest(found: Option<u32>, lines: &[u32], longs: &[bool]) -> Option<u32>
 
 /// The line at which it is told that no story file says what sentences mean: the lowest of those of too long descriptions, rules and
 /// scenes, and 1 where nothing is too long.
-pub fn line_told(
-    alloc: Global,
-    sentences: &[Sentence],
-    meant: &Meant,
-) -> Result<u32, AllocError>
+pub fn line_told(alloc: Global, sentences: &[Sentence], meant: &Meant) -> Result<u32, AllocError>
     requires held { IsHeld meant.now.tale }
     requires are_of { AreOf meant.now.tale (contents_meant meant.now.contents) }
     requires lines { meant.now.scene_lines.items ≡ scene_lines (scope_said sentences.now) sentences.now (length meant.now.tale.declared.scenes) }

@@ -1,8 +1,6 @@
 use Rattle.std.proofs.Common.{[], ◌++◌, map, refl}
 use Rattle.object_words.specs.Mentions.{number_in}
 use Rattle.play_meaning.specs.Meant.{text_meant}
-use Rattle.play_meaning.specs.Patterns.{rule_meant}
-use Rattle.play_meaning.specs.ScenesMeant.{scene_meant}
 use Rattle.code_table.specs.Origins.{Describes, origins_in_rules, origins_in_scenes, origins_meant}
 use Rattle.code_table.proofs.Coded.{all_behind}
 use Rattle.code_table.proofs.Stopped.{stops_all, stops_behind, stops_in_front}
