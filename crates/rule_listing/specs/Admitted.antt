@@ -3,7 +3,6 @@ use Rattle.std.specs.Prelude.{ℕ, Bool, false, true, ◌&&◌, List, filter, Op
 use Rattle.play_meaning.specs.Admitting.{may_be_met}
 use Rattle.play_meaning.specs.Rules.{Aspect, is_action}
 use Rattle.play_meaning.specs.Settings.{Setting}
-use Rattle.rule_index.specs.Buckets.{rule_admits}
 use Rattle.rule_listing.specs.declared.admitted.Sought.{Sought}
 use Rattle.rule_listing.specs.declared.admitted.SoughtObject.{SoughtObject}
 use Rattle.rule_listing.specs.declared.admitted.SoughtObject.TheVariants.{Any, Nothing, The}
